@@ -1,6 +1,6 @@
-//! Tests of what stands on a disk below the rules: each module has those of one crate, `forms` those
-//! of a journal's two forms. They stand apart from the crates, so that a crate isn't proved once
-//! more for its tests.
+//! Tests of what stands on a disk below the rules: each module has those of one crate, `forms`
+//! those of a journal's two forms. They stand apart from the crates, so that a crate isn't proved
+//! once more for its tests.
 #![tactic(auto)]
 
 #[cfg(test)]

@@ -19,9 +19,9 @@ ghost use Rattle.nqs_host_laws.specs.Reads.{AreLive};
 ghost use Rattle.nqs_host_laws.specs.Offers.{takes_back_few};
 
 use crate::edits::edit_stands;
-use crate::values::{carried_stands, hands_stand, job_stands};
+use crate::values::{carried_stands, hands_stand};
 use nqs_base::name_stands;
-use nqs_records::{byte_stands, maybe_name_stands, number_stands};
+use nqs_records::{byte_stands, job_stands, maybe_name_stands, number_stands};
 use nqs_state::HostState;
 use nqs_types::Change;
 

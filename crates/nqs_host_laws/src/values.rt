@@ -3,14 +3,14 @@
 
 ghost use Rattle.std.specs.Prelude.{IsTrue};
 ghost use Rattle.std.specs.List.{AllByRecursion};
-ghost use Rattle.nqs_rules.specs.Sane.{is_sane_job, is_sane_carried};
-ghost use Rattle.nqs_records.specs.Values.{IsOpt, IsHost, IsJob, IsCarried};
+ghost use Rattle.nqs_rules.specs.Sane.{is_sane_carried};
+ghost use Rattle.nqs_records.specs.Values.{IsOpt, IsHost, IsCarried};
 ghost use Rattle.nqs_records.specs.EditValues.{IsDest};
 ghost use Rattle.nqs_host_laws.specs.Offers.{HasNumber};
 
 use nqs_base::name_stands;
-use nqs_records::{maybe_name_stands, maybe_number_stands, number_stands};
-use nqs_types::{Carried, Job, NamedDest, PeerNumber};
+use nqs_records::{job_stands, number_stands};
+use nqs_types::{Carried, NamedDest, PeerNumber};
 
 pub(crate) fn dest_stands(dest: &NamedDest)
     ensures { IsDest dest.now }
@@ -26,18 +26,6 @@ pub(crate) fn maybe_dest_stands(dest: &Option<NamedDest>)
         Some(dest) => dest_stands(dest),
         None => {}
     }
-}
-
-pub(crate) fn job_stands(job: &Job)
-    requires { IsTrue (is_sane_job job.now) }
-    ensures { IsJob job.now }
-{
-    name_stands(&job.name);
-    name_stands(&job.owner);
-    number_stands(job.earliest);
-    maybe_number_stands(&job.limits.cpu);
-    maybe_number_stands(&job.limits.memory);
-    maybe_name_stands(&job.forms);
 }
 
 pub(crate) fn carried_stands(carried: &Carried)

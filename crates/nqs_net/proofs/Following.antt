@@ -41,7 +41,7 @@ by_run old now run runs = λ which. (part which run, runs which)
 
 pub goes : (a : Active) (old now : Which → History) (o : Option (Change (List ℕ))) (s : Plain) → IsOneOrOther a old now o s → GoOn old now
 goes a old now None s (same, told) = still old now same
-goes a old now (Some c) s keeping = by_run old now keeping.run keeping.made
+goes a old now (Some c) s keeping = by_run old now keeping.calls.run keeping.calls.made
 
 pub broke_off : (a : Active) (old now : Which → History) (o : Option (Change (List ℕ))) → IsBrokenOff a old now o → GoOn old now
 broke_off a old now None same = still old now same

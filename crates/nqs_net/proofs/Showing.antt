@@ -2,6 +2,7 @@
 use Rattle.std.proofs.Common.{◌≡◌, ℕ, zero, suc, ◌<◌, ◌≤◌, List, [], ◌∷◌, ◌++◌, map, take, length, get_or, slice_get, set, refl, sym, ap, subst, ◌∙◌}
 use Rattle.std.proofs.Common.{arith}
 use Rattle.std.proofs.lemmas.Bool.{leb-true}
+use Rattle.nqs_base.specs.Extents.{extent_bytes}
 use Rattle.nqs_state.specs.State.{Plain, content}
 use Rattle.nqs_state.specs.declared.state.HostState.{HostState}
 use Rattle.nqs_base.specs.declared.tear.Tear.{Tear}
@@ -19,7 +20,6 @@ use Rattle.nqs_laws.specs.Words.{IsInOrderAll}
 use Rattle.nqs_store.specs.Active.{IsActive}
 use Rattle.nqs_store.specs.Disks.{histories_of, failing_of, contents}
 use Rattle.nqs_store.specs.Images.{IsTold, IsToldHost}
-use Rattle.nqs_store.specs.Live.{bytes_at}
 use Rattle.nqs_store.specs.Told.{Host as Told}
 use Rattle.nqs_store.specs.Sound.{IsSoundHost}
 use Rattle.nqs_store.specs.Stores as store
@@ -68,7 +68,7 @@ pub down_stands : (disks : Disks MemDisk) (state : HostState) (host : Host)
     → ((told_host : Told) → IsToldHost (contents (histories_of mem.history_of disks)) told_host → content state ≡ told_host)
     → IsDown disks host → StandsFor state host.state
 down_stands disks state host read down =
-    let bytes = bytes_at (bytes_now (histories_of mem.history_of disks Spool)) in
+    let bytes = extent_bytes (bytes_now (histories_of mem.history_of disks Spool)) in
     (bytes, ap (map_state bytes) (read down.tells.host down.tells.is) ∙ down.tells.bytes)
 
 -- slots at a place

@@ -77,15 +77,15 @@ module _ (host : Host) (fails : Which → ℕ → Bool) (old : Which → History
     active = subst (IsActive left) is (leaves left images).1;
   }
 
-  cut_other : IsCutAtOther a fails puts old now before after → CutsTo before after left host (fate puts host)
-  cut_other cut =
+  cut_other : IsTrue (is_due a.records) → IsCutAtOther a fails old now before → CutsTo before after left host (fate puts host)
+  cut_other due cut =
       let root = ap state cut.root ∙ quiet ∙ ap fresh holds in
       let falls = journal_falls host fails old disks puts cut.at cut.failed in
-      subst (CutsTo before after left host) (sym (other_fate host fails old disks puts cut.due falls))
-      (subst (AreFound left before) (sym (other_cut host fails old disks puts cut.due falls)) (found before a host cut.told refl root))
+      subst (CutsTo before after left host) (sym (other_fate host fails old disks puts due falls))
+      (subst (AreFound left before) (sym (other_cut host fails old disks puts due falls)) (found before a host cut.told refl root))
 
-  cut_root : IsCutAtRoot a fails puts old now before after → CutsTo before after left host (fate puts host)
-  cut_root cut =
+  cut_root : IsTrue (is_due a.records) → IsCutAtRoot a fails old now before → CutsTo before after left host (fate puts host)
+  cut_root due cut =
       let none = journal_clear host fails old disks puts cut.other in
       let falls = root_falls host fails old disks puts cut.at cut.failed in
       let torn_now : left Root ≡ torn_root host.tear host.root = ap (torn host.tear) (cut.pending ∙ ap turning holds) ∙ torn_turning host.root host.tear in
@@ -95,8 +95,8 @@ module _ (host : Host) (fails : Which → ℕ → Bool) (old : Which → History
         root = torn_now;
         active = subst (IsActive left) (ap (λ r. named_in r a) torn_now ∙ named_torn host (torn_root host.tear host.root)) told.1;
       } in
-      subst (CutsTo before after left host) (sym (root_fate host fails old disks puts cut.due none falls))
-      (subst (AreFound left before) (sym (root_cut host fails old disks puts cut.due none falls)) over)
+      subst (CutsTo before after left host) (sym (root_fate host fails old disks puts due none falls))
+      (subst (AreFound left before) (sym (root_cut host fails old disks puts due none falls)) over)
 
   -- past a checkpoint
   module _ (past : IsPast a fails old) (made : now Root ≡ extended (old Root) (root_calls a)) where
@@ -173,10 +173,10 @@ module _ (host : Host) (fails : Which → ℕ → Bool) (old : Which → History
   ]
 
   pub cut_fate : (which : Which) → IsCutAt a fails puts old now before after which → CutsTo before after left host (fate puts host)
-  cut_fate Root cut = cut_root cut
-  cut_fate First (inl cut) = cut_other cut.1
+  cut_fate Root cut = cut_root cut.0 cut.1
+  cut_fate First (inl cut) = cut_other cut.1.0 cut.1.1
   cut_fate First (inr cut) = cut_record cut.1
-  cut_fate Second (inl cut) = cut_other cut.1
+  cut_fate Second (inl cut) = cut_other cut.1.0 cut.1.1
   cut_fate Second (inr cut) = cut_record cut.1
   cut_fate Spool cut = cut_spool cut.past cut.root cut.at cut.failed cut.told
 

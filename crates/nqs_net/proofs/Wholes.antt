@@ -137,12 +137,13 @@ module _ (a : Active) (puts : List (List ℕ)) (snapshot places : List ℕ) (gat
 -- where all calls were made, the journal has its record
 pub kept_one_more : (a : Active) (puts : List (List ℕ)) (old now : Which → History) (before later : Plain)
     → CommitsBy (λ planned run. run ≡ planned) a puts old now → (k : Keeping a puts old now before later)
-    → HasOneMore (before_record a k.snapshot old) (now (journal_of (ready a)))
-kept_one_more a puts old now before later c k = by k.begun
+    → HasOneMore (before_record a k.calls.snapshot old) (now (journal_of (ready a)))
+kept_one_more a puts old now before later c k = by k.calls.stands
   where
-    by : IsBegun (commit_calls a k.snapshot k.places puts k.gate k.payload) k.run → HasOneMore (before_record a k.snapshot old) (now (journal_of (ready a)))
+    by : IsBegun (commit_calls a k.calls.snapshot k.calls.places puts k.calls.gate k.calls.payload) k.calls.run
+        → HasOneMore (before_record a k.calls.snapshot old) (now (journal_of (ready a)))
     by (inl whole) = k.one_more whole
     by (inr short) =
-        let few = fewer (commit_calls a k.snapshot k.places puts k.gate k.payload) k.run short in
-        let all = as_many old now k.run c.run k.made c.made ∙ ap host_oks c.stands ∙ all_oks a puts c.snapshot c.places c.gate c.payload c.many in
-        absurd (let no : ⊥ = omega (arith, few, all, all_length a puts k.snapshot k.places k.gate k.payload k.many) in no)
+        let few = fewer (commit_calls a k.calls.snapshot k.calls.places puts k.calls.gate k.calls.payload) k.calls.run short in
+        let all = as_many old now k.calls.run c.run k.calls.made c.made ∙ ap host_oks c.stands ∙ all_oks a puts c.snapshot c.places c.gate c.payload c.many in
+        absurd (let no : ⊥ = omega (arith, few, all, all_length a puts k.calls.snapshot k.calls.places k.calls.gate k.calls.payload k.calls.many) in no)

@@ -45,7 +45,7 @@ pub record IsNext (was now : Point) : Type 0 where
   pub active : now.active ≡ recorded (ready was.active)
   pub calls : CommitsBy (λ planned run. run ≡ planned) was.active (stored_parts change) was.histories now.histories
   pub moments : Keeping was.active (stored_parts change) was.histories now.histories was.state now.state
-  pub one_more : HasOneMore (before_record was.active moments.snapshot was.histories) (now.histories (journal_of (ready was.active)))
+  pub one_more : HasOneMore (before_record was.active moments.calls.snapshot was.histories) (now.histories (journal_of (ready was.active)))
   pub told : IsTelling now
 
 -- changes led from point to point, the last point first

@@ -21,5 +21,6 @@ mod stop;
 mod turn;
 mod world;
 
+pub use new::empty_disks;
 pub use slot::{DownHost, Slot, UpHost};
 pub use world::World;

@@ -19,8 +19,8 @@ use nqs_store::{Disks, LoadFault, StoreFault, format};
 use nqs_types::HostId;
 use std::alloc::Global;
 
-// Four empty disks.
-fn new_disks(alloc: Global) -> Disks<MemDisk>
+/// Four empty disks.
+pub fn empty_disks(alloc: Global) -> Disks<MemDisk>
     ensures histories { (which : Which) → histories_of mem.history_of result which ≡ record { start = []; calls = [] } }
     ensures fuses { (which : Which) (i : ℕ) → failing_of mem.fails_of result which i ≡ false }
 {
@@ -94,7 +94,7 @@ fn new_node(alloc: Global, me: HostId, site: &[Name]) -> Result<Box<Node<MemDisk
     ensures up { IfOk result (λ node. IsUp node.value (new_host site.now me.0)) }
     ensures running { IfOk result (λ node. is_stopped node.value ≡ false) }
 {
-    let mut disks = new_disks(alloc);
+    let mut disks = empty_disks(alloc);
     match format(alloc, &mut disks, me, site) {
         Err(fault) => Err(unformatted(fault, disks)),
         Ok(()) => {

@@ -4,6 +4,7 @@ use Rattle.std.specs.List.{filter_map, cons_option}
 use Rattle.std.specs.Option.{option_to_list}
 use Rattle.std.proofs.lemmas.List.{map-append}
 use Rattle.std.proofs.lemmas.List.Elements.{filter_map-append}
+use Rattle.nqs_base.specs.Extents.{extent_bytes}
 use Rattle.nqs_state.specs.State.{Plain, content as host_of}
 use Rattle.nqs_state.specs.declared.state.HostState.{HostState}
 use Rattle.nqs_base.specs.declared.extent.Extent.{Extent}
@@ -30,7 +31,6 @@ use Rattle.nqs_rules.specs.World.{boot_output}
 use Rattle.nqs_store.specs.Active.{Active, IsActive}
 use Rattle.nqs_store.specs.Disks.{histories_of, contents}
 use Rattle.nqs_store.specs.Images.{IsTold}
-use Rattle.nqs_store.specs.Live.{bytes_at}
 use Rattle.nqs_store.specs.Stores.{history_of, plain_of, Tells}
 use Rattle.nqs_store.specs.Told.{Host}
 use Rattle.nqs_store.specs.declared.store.Store.{Store}
@@ -87,8 +87,8 @@ told_when_loaded {g = g} disks store state telling loaded =
 
 -- the host that was opened is the one that the disks tell
 pub loaded_is : {D : Type 0} {g : disk.Ghosts D} (store : Store D g) (host told : Host) (bytes : List ℕ) (s : Plain) → content (history_of store Spool) ≡ bytes
-    → host ≡ told → map_state (bytes_at bytes) told ≡ s → plain_of store host ≡ s
-loaded_is store host told bytes s same is e = (λ j. map_state (bytes_at (same j)) (is j)) ∙ e
+    → host ≡ told → map_state (extent_bytes bytes) told ≡ s → plain_of store host ≡ s
+loaded_is store host told bytes s same is e = (λ j. map_state (extent_bytes (same j)) (is j)) ∙ e
 
 -- disks that tell a state name their active journal
 pub active_told : (images : Which → List ℕ) (s : Plain) → IsTold images s → (a : Active) × IsActive images a

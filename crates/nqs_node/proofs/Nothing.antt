@@ -1,7 +1,6 @@
 -- What is told where no call is made.
 use Rattle.std.proofs.Common.{◌≡◌, inl, inr, ℕ, Bool, true, false, not, List, [], ◌∷◌, ◌++◌, map, IsTrue, IsErrOf, Err, None, Some, refl, sym, ap, subst}
 use Rattle.std.proofs.Common.{arith}
-use Rattle.std.proofs.lemmas.List.{length-map}
 use Rattle.std.proofs.Math.Seq.{take-nil}
 use Rattle.nqs_state.specs.State.{Plain}
 use Rattle.nqs_base.specs.declared.extent.Extent.{Extent}
@@ -20,41 +19,26 @@ use Rattle.nqs_store.specs.Told.{Host}
 use Rattle.nqs_store.specs.Stores.{history_of, plain_of, Tells}
 use Rattle.nqs_store.specs.declared.store.Store.{Store}
 use Rattle.nqs_store.specs.Images.{IsTold}
-use Rattle.nqs_store.specs.Hosts.{HostCall, Runs, StopsShort, part}
+use Rattle.nqs_store.specs.Hosts.{StopsShort, part}
+use Rattle.nqs_store.proofs.Composed.{by_weaker, idle_by, none_begun}
 use Rattle.nqs_store.proofs.EachDisk.{each_disk}
 use Rattle.nqs_store.proofs.Kept.{idle_commits, left_alone}
-use Rattle.nqs_store.proofs.Runs.{none_more}
 use Rattle.nqs_store.proofs.TellsNow.{told_now, active_quiet}
-use Rattle.nqs_store.proofs.Composed.{none_begun}
 use Rattle.nqs_node.specs.Carried.{Kept, IsOneOrOther}
 use Rattle.nqs_node.specs.Makes.{Makes}
-
--- no call of a commit was made
-
-none_runs : (old : Which → History) → Runs old old []
-none_runs old which = none_more (old which)
 
 -- A change is to be kept, and no call of its commit was made yet: quiet disks that tell a state
 -- still tell it.
 none_made : (a : Active) (puts : List (List ℕ)) (old : Which → History) (before later : Plain) → ((which : Which) → IsQuiet (old which))
     → EachImage old (λ images. IsTold images before) → Keeping a puts old old before later
-none_made a puts old before later quiet told =
-    let places : List ℕ = map (λ (l : List ℕ). 0) puts in
-    record {
-      snapshot = [];
-      places = places;
-      gate = 0;
-      payload = [];
-      run = [];
-      many = length-map puts (λ (l : List ℕ). 0);
-      begun = inr (none_begun a [] places puts 0 []);
-      made = none_runs old;
-      told = λ j images within leaves.
-          inl (told images (λ which. subst (λ l. IsImage (after (state (old which)) (part which l)) (images which)) (take-nil j) (leaves which)));
-      settled = λ j v w apart.
-          inl (subst (λ l. (after (state (old v)) (part v l)).ranges ≡ []) (sym (take-nil j)) (ap (λ (s : State). s.ranges) (quiet v)));
-      one_more = λ whole. absurd (subst (λ l. StopsShort l []) (sym whole) (none_begun a [] places puts 0 []));
-    }
+none_made a puts old before later quiet told = record {
+  calls = by_weaker (idle_by a old old puts (λ which. refl)) (λ planned run short. inr short);
+  told = λ j images within leaves.
+      inl (told images (λ which. subst (λ l. IsImage (after (state (old which)) (part which l)) (images which)) (take-nil j) (leaves which)));
+  settled = λ j v w apart.
+      inl (subst (λ l. (after (state (old v)) (part v l)).ranges ≡ []) (sym (take-nil j)) (ap (λ (s : State). s.ranges) (quiet v)));
+  one_more = λ whole. absurd (subst (λ l. StopsShort l []) (sym whole) (none_begun a [] (map (λ _. 0) puts) puts 0 []));
+}
 
 -- The same, whatever is to be kept.
 pub none_one : (a : Active) (old now : Which → History) → ((which : Which) → now which ≡ old which) → ((which : Which) → IsQuiet (old which)) → (s : Plain)

@@ -1,5 +1,6 @@
 -- What is kept, seen from before the reads that come first.
-use Rattle.std.proofs.Common.{◌≡◌, ℕ, Bool, IsTrue, List, Option, option_map, None, Some, sym, ap, subst, ◌∙◌}
+use Rattle.std.proofs.Common.{◌≡◌, ℕ, Bool, IsTrue, List, Option, option_map, None, Some, refl, sym, ap, subst, ◌∙◌}
+use Rattle.nqs_base.specs.Extents.{extent_bytes}
 use Rattle.nqs_state.specs.State.{Plain}
 use Rattle.nqs_base.specs.declared.extent.Extent.{Extent}
 use Rattle.nqs_types.specs.declared.change.Change.{Change}
@@ -16,7 +17,6 @@ use Rattle.nqs_store.specs.Active.{Active}
 use Rattle.nqs_store.specs.Commits.{IsKept, IsCutAt, Keeping}
 use Rattle.nqs_store.specs.Faults.{IsScriptFault}
 use Rattle.nqs_store.specs.Hosts.{StopsShort}
-use Rattle.nqs_store.specs.Live.{bytes_at}
 use Rattle.nqs_store.specs.Plan.{CommitsBy}
 use Rattle.nqs_store.specs.Stores.{history_of, active_of, plain_of, Tells}
 use Rattle.nqs_store.specs.Told.{Host}
@@ -49,7 +49,7 @@ module _ {D : Type 0} {g : disk.Ghosts D} (old mid : Store D g) (same : (which :
       (told_images old host telling told) kept
 
   pub same_plain : (host : Host) → plain_of mid host ≡ plain_of old host
-  same_plain host = ap (λ (h : History). map_state (bytes_at (content h)) host) (same Spool)
+  same_plain host = ap (λ (h : History). map_state (extent_bytes (content h)) host) (same Spool)
 
 module _ (a later : Active) (stays : later ≡ a) (fails since : Which → ℕ → Bool) (old mid now : Which → History)
     (fuse : (which : Which) (i : ℕ) → since which i ≡ fails which i) (same : (which : Which) → mid which ≡ old which)

@@ -83,8 +83,8 @@ fn environ_of(rt: &HostRuntime, number: u32) -> io::Result<Vec<u8>> {
     }
 }
 
-// Adds the number of a process by the name of a file of `/proc`, if it has this mark and is not this
-// process.
+// Adds the number of a process by the name of a file of `/proc`, if it has this mark and is not
+// this process.
 fn add_marked(
     rt: &HostRuntime,
     name: &str,

@@ -4,6 +4,7 @@ use Rattle.std.proofs.Common.{length, take, drop, slice_index, Option, Some, Non
 use Rattle.std.specs.Prelude.{⊤}
 use Rattle.std.proofs.lemmas.Bool.{eqb-true, ltb-true, ltb-false}
 use Rattle.std.proofs.lemmas.Bool.Decides.{nat_tests}
+use Rattle.nqs_base.specs.Extents.{extent_bytes}
 use Rattle.nqs_base.specs.Name.{IsName, allowed_at}
 use Rattle.nqs_base.specs.Path.{IsPath, path_allowed_at, has_parent}
 use Rattle.nqs_codec.specs.Fields.{u8_field, short_field, bool_field}

@@ -64,7 +64,7 @@ pub use put_lists::{Put, put_each};
 pub use put_parts::{put_carried, put_extent, put_id, put_job, put_opt_name, put_opt_u64};
 pub use read::{first_faults, read_change, reads_the_spelling, what_may_stand_is_sane};
 pub use values::{
-    byte_stands, maybe_name_stands, maybe_number_stands, middle_number_stands, number_stands,
-    short_number_stands,
+    byte_stands, job_stands, maybe_name_stands, maybe_number_stands, middle_number_stands,
+    number_stands, short_number_stands,
 };
 pub use write::write_change;

@@ -2,7 +2,6 @@
 //! takes memory.
 
 ghost use Rattle.std.specs.Prelude.{◌≡◌, ◌≤◌, Some, IfOk, codes, take, drop};
-ghost use Rattle.std.specs.List.{position};
 ghost use Rattle.nqs_base.specs.Same.{name_eq};
 ghost use Rattle.nqs_schedule.specs.Words.{no_word, text_there, name_at, number_at, host_of, host_at, request_at, disk_of, disk_at, mixed_of, as_mixed};
 ghost use Rattle.nqs_schedule.specs.Words.{tear_of, tear_at, output_at, nothing_at, all_good};

@@ -98,11 +98,11 @@ none_made a = ([], refl, tt, refl)
 
 -- those of one change
 of_keeping : (a : Active) (c : Change (List ℕ)) (old now : Which → History) (s : Plain) (k : Keeping a (stored_parts c) old now s (applied c s))
-    → IsOfCommits a (recorded (ready a)) k.run
+    → IsOfCommits a (recorded (ready a)) k.calls.run
 of_keeping a c old now s k = (
-  k.run ∷ [],
-  sym (append-nil k.run),
-  ((k.snapshot, k.places, stored_parts c, k.gate, k.payload, k.many, k.begun), tt),
+  k.calls.run ∷ [],
+  sym (append-nil k.calls.run),
+  ((k.calls.snapshot, k.calls.places, stored_parts c, k.calls.gate, k.calls.payload, k.calls.many, k.calls.stands), tt),
   refl,
 )
 
@@ -128,9 +128,9 @@ pub through_change : (a : Active) (old now : Which → History) (kept : Kept) (s
 through_change a old now None s P still before later =
     ([], none_made a, λ which. still.0 which ∙ none_more (old which), each_none old _ (λ images leaves. (s, still.1 images leaves, before)))
 through_change a old now (Some c) s P keeping before later = (
-  keeping.run,
+  keeping.calls.run,
   of_keeping a c old now s keeping,
-  keeping.made,
+  keeping.calls.made,
   λ j images le leaves. told_either s (applied c s) P before later images (keeping.told j images le leaves),
 )
 
@@ -139,11 +139,11 @@ pub at_last : (a : Active) (old now : Which → History) (kept : Kept) (s : Plai
     → EachImage now (TellsOneOf s (after_change kept s))
 at_last a old now None s still = λ images leaves. inl (still.1 images (λ which. subst (λ h. IsImage (state h) (images which)) (still.0 which) (leaves which)))
 at_last a old now (Some c) s keeping = λ images leaves.
-    keeping.told (length keeping.run) images (omega arith) (λ which. subst (λ x. IsImage x (images which)) (is which) (leaves which))
+    keeping.told (length keeping.calls.run) images (omega arith) (λ which. subst (λ x. IsImage x (images which)) (is which) (leaves which))
   where
-    is : (which : Which) → state (now which) ≡ after_calls (state (old which)) (part which (take (length keeping.run) keeping.run))
-    is which = ap state (keeping.made which) ∙ state-extended (old which) (part which keeping.run)
-        ∙ ap (λ (l : List HostCall). after_calls (state (old which)) (part which l)) (sym (take-length keeping.run))
+    is : (which : Which) → state (now which) ≡ after_calls (state (old which)) (part which (take (length keeping.calls.run) keeping.calls.run))
+    is which = ap state (keeping.calls.made which) ∙ state-extended (old which) (part which keeping.calls.run)
+        ∙ ap (λ (l : List HostCall). after_calls (state (old which)) (part which l)) (sym (take-length keeping.calls.run))
 
 -- the same, to the journal that is active then
 pub through_made : (a b : Active) (old now : Which → History) (kept : Kept) (s : Plain) (P : Plain → Type 0) → b ≡ after_kept kept a

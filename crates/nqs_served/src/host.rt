@@ -1,7 +1,7 @@
 //! Hosts that are formatted and booted, and served: `alpha` of a site of one, and each of the two
 //! of a site.
 
-ghost use Rattle.std.specs.Prelude.{◌≡◌, ◌<◌, [], false, IfOk};
+ghost use Rattle.std.specs.Prelude.{◌≡◌, ◌<◌, false, IfOk};
 ghost use Rattle.nqs_types.specs.declared.world.Which.{Which as OneOf};
 ghost use Rattle.nqs_outside.specs.History.{IsQuiet};
 ghost use Rattle.nqs_disk.specs.MemDisk.{history_of as history_of_disk};
@@ -13,6 +13,7 @@ use crate::outside::Outside;
 use crate::trouble::Trouble;
 use nqs_base::{Items, Name};
 use nqs_disk::MemDisk;
+use nqs_net::empty_disks;
 use nqs_node::Node;
 use nqs_rules_table::table_of;
 use nqs_schedule::print_seen;
@@ -21,17 +22,6 @@ use nqs_state::HostState;
 use nqs_store::{Disks, format};
 use nqs_types::{HostId, Seen, Which};
 use std::alloc::Global;
-
-fn empty_disks(alloc: Global) -> Disks<MemDisk>
-    ensures { (which : OneOf) → history_of_disk (disk_at which result) ≡ record { start = []; calls = [] } }
-{
-    Disks {
-        root: MemDisk::new(alloc),
-        first: MemDisk::new(alloc),
-        second: MemDisk::new(alloc),
-        spool: MemDisk::new(alloc),
-    }
-}
 
 /// The name of the first host.
 pub(crate) fn alpha() -> Name {

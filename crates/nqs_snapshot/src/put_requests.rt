@@ -12,10 +12,9 @@ ghost use Rattle.nqs_snapshot.specs.Spelling.{state_number, hold_number, refused
 use crate::field::put_list;
 use crate::lists::InSnapshot;
 use crate::put_queues::put_dest;
-use crate::typed::job_stands;
 use nqs_base::{Memory, Name};
 use nqs_codec::{put_bool, put_name, put_u8, put_u16, put_u64};
-use nqs_records::{Put, put_extent, put_id, put_job, put_opt_name};
+use nqs_records::{Put, job_stands, put_extent, put_id, put_job, put_opt_name};
 use nqs_types::{Hold, Job, Refused, Row, RowState};
 
 fn state_number(state: RowState) -> u8

@@ -7,20 +7,20 @@ ghost use Rattle.nqs_base.specs.Name.{IsName};
 ghost use Rattle.nqs_rules.specs.InOrder.{IsInOrder};
 ghost use Rattle.nqs_records.specs.Values.{IsU16, IsOpt};
 ghost use Rattle.nqs_snapshot.specs.Values.{IsMany, IsAccess, IsLimits, IsComplex, IsDevice, IsPeer, MayStand, MayStandCounters};
-ghost use Rattle.nqs_snapshot.specs.Typed.{IsTypedDest, AreTypedSettings, IsTypedQueue, IsTypedJob, IsTypedRefused, IsTypedCourse, IsTypedRow};
+ghost use Rattle.nqs_snapshot.specs.Typed.{IsTypedDest, AreTypedSettings, IsTypedQueue, IsTypedRefused, IsTypedCourse, IsTypedRow};
 ghost use Rattle.nqs_snapshot.specs.Typed.{IsTypedHand, IsTypedPromise, IsTypedStage, IsTypedFile, IsTypedSite, AreTypedRequests, AreTypedDealings};
 ghost use Rattle.nqs_snapshot.specs.Sound.{HasShortParts};
 
 use nqs_base::{Key, Keyed, Name, name_stands};
 use nqs_base_tables::Table;
 use nqs_records::{
-    byte_stands, maybe_name_stands, maybe_number_stands, middle_number_stands, number_stands,
-    short_number_stands,
+    byte_stands, job_stands, maybe_name_stands, maybe_number_stands, middle_number_stands,
+    number_stands, short_number_stands,
 };
 use nqs_state::HostState;
 use nqs_types::{
-    Access, ComplexDef, Dest, DeviceDef, FileOut, Hand, Job, Limits, Peer, Promise, QueueDef,
-    Refused, Row, Stage,
+    Access, ComplexDef, Dest, DeviceDef, FileOut, Hand, Limits, Peer, Promise, QueueDef, Refused,
+    Row, Stage,
 };
 
 fn maybe_short_number_stands(number: &Option<u16>)
@@ -30,18 +30,6 @@ fn maybe_short_number_stands(number: &Option<u16>)
         Some(number) => short_number_stands(*number),
         None => {}
     }
-}
-
-/// A job that the rules call sane has fields.
-pub(crate) fn job_stands(job: &Job)
-    ensures { IsTypedJob job.now }
-{
-    name_stands(&job.name);
-    name_stands(&job.owner);
-    number_stands(job.earliest);
-    maybe_number_stands(&job.limits.cpu);
-    maybe_number_stands(&job.limits.memory);
-    maybe_name_stands(&job.forms);
 }
 
 /// A value, and what its type says of it.

@@ -28,7 +28,7 @@ use Rattle.nqs_rules.specs.World.{spool_calls}
 use Rattle.nqs_store.specs.Told.{Host, told_by}
 use Rattle.nqs_store.specs.Live.{live}
 use Rattle.nqs_store.specs.Active.{Active, IsActive, recorded}
-use Rattle.nqs_store.specs.Hosts.{on, part, Runs, StopsShort as HostStops}
+use Rattle.nqs_store.specs.Hosts.{failed_on, on, part, Runs, StopsShort as HostStops}
 use Rattle.nqs_store.specs.Plan.{puts_calls, change_calls}
 use Rattle.nqs_store.specs.Puts.{place_of}
 use Rattle.nqs_store.specs.Putting.{ArePartlyPut, ArePutFor}
@@ -41,9 +41,8 @@ use Rattle.nqs_store.specs.Stores.{Tells, plain_of, history_of, fails_of, is_sta
 use Rattle.nqs_store.specs.declared.store.Store.{Store}
 use Rattle.nqs_store.proofs.TellsNow.{only_image, active_image}
 use Rattle.nqs_store.proofs.EachDisk.{each_of, with_disk, but_disk, journal_apart, stands_on, history_on}
-use Rattle.nqs_store.proofs.Runs.{cut_short, never_short}
+use Rattle.nqs_store.proofs.Runs.{cut_short, never_short, stops_behind}
 use Rattle.nqs_store.proofs.HostRuns.{part_own, part_other, part_append, same_or, runs_on, runs_both, moments_both, moments_weaker, on_stops, last_stops}
-use Rattle.nqs_store.proofs.HostRuns.{behind_stops}
 use Rattle.nqs_store.proofs.Committed.{Keeps, IsPut, told_before, named_image, stands_image, append_moments, put_moments}
 
 pub spool_rest : (old now : Which → History) → now Root ≡ old Root → now First ≡ old First → now Second ≡ old Second → (w : Which) → w ≢ Spool
@@ -166,7 +165,7 @@ module _ {D : Type 0} {g : disk.Ghosts D} (old now : Store D g) (puts : List (Li
           payload = text;
           run = on Spool (puts_calls places puts) ++ on x broken.0;
           many = many;
-          stands = behind_stops (on Spool (puts_calls places puts)) (on x (append_calls (journal.gate_of (journal_in old.on_second old)) text))
+          stands = stops_behind failed_on (on Spool (puts_calls places puts)) (on x (append_calls (journal.gate_of (journal_in old.on_second old)) text))
               (on x broken.0) (last_stops x (append_calls (journal.gate_of (journal_in old.on_second old)) text) broken.0 broken.2);
           made = runs_both o w n (on Spool (puts_calls places puts)) (on x broken.0) puts_run (journal_run broken.0 broken.1);
           at = all_moments broken.0 broken.1 is (short.any_moment yes);

@@ -2,6 +2,7 @@
 use Rattle.std.proofs.Common.{◌≡◌, ◌≢◌, inl, inr, ℕ, ◌≤◌, Bool, true, false, IsTrue, if◌then◌else◌, List, [], ◌∷◌, ◌++◌, map, length, Some, None, refl, sym, ap}
 use Rattle.std.proofs.Common.{subst, ◌∙◌}
 use Rattle.std.specs.List.{AllByRecursion}
+use Rattle.nqs_base.specs.Extents.{extent_bytes}
 use Rattle.nqs_base.specs.declared.extent.Extent.{Extent}
 use Rattle.nqs_types.specs.declared.change.Change.{Change}
 use Rattle.nqs_types.specs.declared.change.Change.TheVariants.{Site, Submitted, Deleted, Doomed, Started, Ended, Unlaunched, Boot, Edited, HandOpened}
@@ -27,7 +28,7 @@ use Rattle.nqs_rules.specs.Plain.{map_state}
 use Rattle.nqs_rules.proofs.PlainLemmas.{applied-map}
 use Rattle.nqs_rules.proofs.FilledLemmas.{read-planned}
 use Rattle.nqs_store.specs.Told.{Host, told_by, taken, read_taken}
-use Rattle.nqs_store.specs.Live.{live, bytes_at}
+use Rattle.nqs_store.specs.Live.{live}
 use Rattle.nqs_store.specs.Accounts.{Adds}
 use Rattle.nqs_store.specs.Frees.{gone}
 use Rattle.nqs_store.specs.Puts.{HoldEach}
@@ -50,7 +51,7 @@ use Rattle.nqs_store.proofs.EachDisk.{each_of, with_disk, at_disk, but_disk, res
 abbrev pub Keeps : Host → List ℕ → List ℕ → Type 0
 Keeps host bytes image = (x : Extent) (script : List ℕ) → Has (live host) x → Holds bytes x script → Holds image x script
 
-read_all : (bytes : List ℕ) (xs : List Extent) (puts : List (List ℕ)) → HoldEach bytes xs puts → map (bytes_at bytes) xs ≡ puts
+read_all : (bytes : List ℕ) (xs : List Extent) (puts : List (List ℕ)) → HoldEach bytes xs puts → map (extent_bytes bytes) xs ≡ puts
 read_all bytes [] [] holds = refl
 read_all bytes [] (put ∷ puts) holds = absurd holds
 read_all bytes (x ∷ xs) [] holds = absurd holds
@@ -103,11 +104,11 @@ module _ {D : Type 0} {g : disk.Ghosts D} (tells_all : IsTrue g.tells) (old : St
   abbrev was : List ℕ
   was = content (spool.history_of old.spool)
 
-  held : (x : Extent) → Has (live host) x → Holds was x (bytes_at was x)
+  held : (x : Extent) → Has (live host) x → Holds was x (extent_bytes was x)
   held x has = record { within = all_has (λ y. past y ≤ length was) (live host) x (is_told.spool.within tells_all) has; same = refl }
 
-  pub plain_kept : (image : List ℕ) → Keeps host was image → map_state (bytes_at image) host ≡ plain_of old host
-  plain_kept image keeps = plain_same (bytes_at image) (bytes_at was) host (λ x has. (keeps x (bytes_at was x) has (held x has)).same)
+  pub plain_kept : (image : List ℕ) → Keeps host was image → map_state (extent_bytes image) host ≡ plain_of old host
+  plain_kept image keeps = plain_same (extent_bytes image) (extent_bytes was) host (λ x has. (keeps x (extent_bytes was x) has (held x has)).same)
 
   pub told_before : (images : Which → List ℕ) → is_second (images Root) ≡ old.on_second
       → StandsBy (images (journal_on old.on_second)) is_told.has is_told.snapshot is_told.payloads → Keeps host was (images Spool)
@@ -117,7 +118,7 @@ module _ {D : Type 0} {g : disk.Ghosts D} (tells_all : IsTrue g.tells) (old : St
     is = told_host old host is_told images named stands (record {
       apart = is_told.spool.live.apart;
       within = has_all (IsWithin (length (images Spool))) (live host)
-          (λ x has. (keeps x (bytes_at was x) has (held x has)).within);
+          (λ x has. (keeps x (extent_bytes was x) has (held x has)).within);
     });
     bytes = plain_kept (images Spool) keeps;
   }
@@ -154,15 +155,15 @@ module _ {D : Type 0} {g : disk.Ghosts D} (tells_all : IsTrue g.tells) (old : St
     pub put_tells : spool.Tells mid account.more
     put_tells = put.tells (live host) account.more is_told.spool (subst (λ xs. Adds (live host) xs account.more) stored_now account.adds)
 
-    pub filled_now : map_change (bytes_at bytes) now ≡ filled change puts
+    pub filled_now : map_change (extent_bytes bytes) now ≡ filled change puts
     filled_now =
         read-planned now (filled change puts) (ap (map_change (λ _. no_extent)) p.done.change ∙ shape_kept change p.done.extents
-        ∙ sym (filled_shape_kept change puts p.many)) (bytes_at bytes)
-        (ap (map (bytes_at bytes)) stored_now ∙ read_all bytes put.added puts (put.held tells_all (live host) is_told.spool)
+        ∙ sym (filled_shape_kept change puts p.many)) (extent_bytes bytes)
+        (ap (map (extent_bytes bytes)) stored_now ∙ read_all bytes put.added puts (put.held tells_all (live host) is_told.spool)
         ∙ sym (filled_bytes change puts p.many))
 
-    pub plain_now : map_state (bytes_at bytes) (applied now host) ≡ applied (filled change puts) (plain_of old host)
-    plain_now = applied-map (bytes_at bytes) now host ∙ (λ j. applied (filled_now j) (plain_kept bytes p.still j))
+    pub plain_now : map_state (extent_bytes bytes) (applied now host) ≡ applied (filled change puts) (plain_of old host)
+    plain_now = applied-map (extent_bytes bytes) now host ∙ (λ j. applied (filled_now j) (plain_kept bytes p.still j))
 
     pub records_now : told_by is_told.has is_told.snapshot (is_told.payloads ++ text ∷ []) ≡ Some (applied now host)
     records_now = told_by_more is_told.has is_told.snapshot is_told.payloads host text is_told.records ∙ ap (λ r. read_taken r (Some host)) p.done.read
@@ -190,7 +191,7 @@ module _ {D : Type 0} {g : disk.Ghosts D} (tells_all : IsTrue g.tells) (old : St
         tells = records_now;
         sound = subst (λ b. AreSound (length b) (live (applied now host))) (sym spool) (record { apart = apart_now; within = within_now });
       };
-      bytes = ap (λ b. map_state (bytes_at b) (applied now host)) spool ∙ plain_now;
+      bytes = ap (λ b. map_state (extent_bytes b) (applied now host)) spool ∙ plain_now;
     }
 
     -- once the extents that go are free

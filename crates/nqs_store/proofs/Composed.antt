@@ -15,7 +15,7 @@ use Rattle.nqs_rules.specs.World.{spool_calls}
 use Rattle.nqs_snapshot.specs.Reading.{snapshot_of}
 use Rattle.nqs_store.specs.Told.{Host}
 use Rattle.nqs_store.specs.Active.{Active, journal_of, other_of, turned_to, ready}
-use Rattle.nqs_store.specs.Hosts.{HostCall, on, part, Runs, StopsShort as HostStops}
+use Rattle.nqs_store.specs.Hosts.{HostCall, failed_on, on, part, Runs, StopsShort as HostStops}
 use Rattle.nqs_store.specs.Plan.{puts_calls, change_calls, checkpoint_calls, due_calls, commit_calls, CommitsBy}
 use Rattle.nqs_store.specs.Images.{IsTold, TellsOneOf}
 use Rattle.nqs_store.specs.Moments.{Moments}
@@ -27,11 +27,12 @@ use Rattle.nqs_store.specs.Stores.{Tells, plain_of, history_of, active_of}
 use Rattle.nqs_store.specs.declared.store.Store.{Store}
 use Rattle.nqs_store.proofs.HostRuns.{part_own, part_append, runs_both, runs_none, length_on, moments_both, moments_weaker, moments_none}
 use Rattle.nqs_store.proofs.HostRuns.{no_pending}
-use Rattle.nqs_store.proofs.HostRuns.{behind_stops, before_stops, none_stops, stops_size}
+use Rattle.nqs_store.proofs.HostRuns.{none_stops, stops_size}
 use Rattle.nqs_store.proofs.EachDisk.{root_is_no_journal, root_apart, spool_apart}
 use Rattle.nqs_store.proofs.Committed.{quiet}
 use Rattle.nqs_store.proofs.TellsNow.{told_now}
 use Rattle.nqs_store.proofs.Changed.{part_apart}
+use Rattle.nqs_store.proofs.Runs.{stops_before, stops_behind}
 
 -- where no checkpoint is due
 module _ (a : Active) (not_due : is_due a.records ≡ false) where
@@ -98,8 +99,22 @@ none_begun a snapshot places puts gate payload =
     none_stops (due_calls a snapshot) (change_calls (ready a) places puts gate payload)
     (none_stops (on Spool (puts_calls places puts)) (on (journal_of (ready a)) (append_calls gate payload)) tt)
 
+-- what stands to the calls of a commit so stands to them in a weaker way
+abbrev pub by_weaker : {Stands Other : List HostCall → List HostCall → Type 0} {a : Active} {puts : List (List ℕ)} {old now : Which → History}
+    → CommitsBy Stands a puts old now → ((planned run : List HostCall) → Stands planned run → Other planned run) → CommitsBy Other a puts old now
+by_weaker c weaker = record {
+  snapshot = c.snapshot;
+  places = c.places;
+  gate = c.gate;
+  payload = c.payload;
+  run = c.run;
+  many = c.many;
+  stands = weaker _ c.run c.stands;
+  made = c.made;
+}
+
 -- nothing was done
-pub idle_by : (a : Active) (old now : Which → History) (puts : List (List ℕ)) → ((w : Which) → now w ≡ old w) → CommitsBy HostStops a puts old now
+abbrev pub idle_by : (a : Active) (old now : Which → History) (puts : List (List ℕ)) → ((w : Which) → now w ≡ old w) → CommitsBy HostStops a puts old now
 idle_by a old now puts same = record {
   snapshot = [];
   places = map (λ _. 0) puts;
@@ -115,27 +130,19 @@ module _ {D : Type 0} {g : disk.Ghosts D} where
   pub idle_keeping : IsTrue g.tells → (old : Store D g) (host : Host) → Tells old host → (now : Which → History) (puts : List (List ℕ)) (later : Plain)
       → ((w : Which) → now w ≡ history_of old w) → Keeping (active_of old) puts (history_of old) now (plain_of old host) later
   idle_keeping told old host tells now puts later same =
-      let places : List ℕ = map (λ _. 0) puts in
       let a = active_of old in
       let m = moments_none (history_of old) (TellsOneOf (plain_of old host) later)
       (λ w. no_pending (state (history_of old w)) (content (history_of old w)) (quiet told old host tells w))
       (λ images leaves. inl (told_now old host tells told images leaves).0) in
       record {
-        snapshot = [];
-        places = places;
-        gate = 0;
-        payload = [];
-        run = [];
-        many = length-map puts (λ _. 0);
-        begun = inr (none_begun a [] places puts 0 []);
-        made = runs_none (history_of old) now same;
+        calls = by_weaker (idle_by a (history_of old) now puts same) (λ planned run short. inr short);
         told = m.told;
         settled = m.settled;
         one_more = λ is. absurd (omega (
           arith,
           ap length is,
-          length-append (due_calls a []) (change_calls (ready a) places puts 0 []),
-          many_calls (ready a) places puts 0 [],
+          length-append (due_calls a []) (change_calls (ready a) (map (λ _. 0) puts) puts 0 []),
+          many_calls (ready a) (map (λ _. 0) puts) puts 0 [],
         ));
       }
 
@@ -144,7 +151,7 @@ module _ {D : Type 0} {g : disk.Ghosts D} where
     abbrev a : Active
     a = active_of old
 
-    pub here_by : {Stands : List HostCall → List HostCall → Type 0} → Changing Stands old now puts host later
+    abbrev pub here_by : {Stands : List HostCall → List HostCall → Type 0} → Changing Stands old now puts host later
         → CommitsBy Stands a puts (history_of old) (history_of now)
     here_by {Stands} c = record {
       snapshot = [];
@@ -160,14 +167,7 @@ module _ {D : Type 0} {g : disk.Ghosts D} where
     pub here_keeping : {Stands : List HostCall → List HostCall → Type 0} → ((planned run : List HostCall) → Stands planned run → IsBegun planned run)
         → Changing Stands old now puts host later → Tells old host → Keeping a puts (history_of old) (history_of now) (plain_of old host) later
     here_keeping {Stands} begins c tells = record {
-      snapshot = [];
-      places = c.places;
-      gate = c.gate;
-      payload = c.payload;
-      run = c.run;
-      many = c.many;
-      begun = subst (λ l. IsBegun l c.run) (sym (here_calls a not_due [] c.places puts c.gate c.payload)) (begins _ c.run c.stands);
-      made = c.made;
+      calls = by_weaker (here_by c) begins;
       told = (c.at tells).told;
       settled = (c.at tells).settled;
       one_more = λ is.
@@ -230,9 +230,9 @@ module _ {D : Type 0} {g : disk.Ghosts D} where
 
     turn_stops : HostStops (commit_calls a' snapshot no_places puts 0 []) t.run
     turn_stops = subst (λ l. HostStops l t.run) (sym (there_calls a' due snapshot no_places puts 0 []))
-        (before_stops (checkpoint_calls a' snapshot) (change_calls (turned_to a') no_places puts 0 []) t.run t.stands)
+        (stops_before failed_on (checkpoint_calls a' snapshot) (change_calls (turned_to a') no_places puts 0 []) t.run t.stands)
 
-    pub turn_by : CommitsBy HostStops a' puts (history_of old) (history_of now)
+    abbrev pub turn_by : CommitsBy HostStops a' puts (history_of old) (history_of now)
     turn_by = record {
       snapshot = snapshot;
       places = no_places;
@@ -248,14 +248,7 @@ module _ {D : Type 0} {g : disk.Ghosts D} where
     turn_keeping reads tells =
         let m = moments_weaker (history_of old) t.run _ (TellsOneOf (plain_of old host) later) (λ images is. inl is) (t.at reads tells) in
         record {
-          snapshot = snapshot;
-          places = no_places;
-          gate = 0;
-          payload = [];
-          run = t.run;
-          many = length-map puts (λ _. 0);
-          begun = inr turn_stops;
-          made = t.made;
+          calls = by_weaker turn_by (λ planned run short. inr short);
           told = m.told;
           settled = m.settled;
           one_more = λ is. absurd (omega (
@@ -270,16 +263,7 @@ module _ {D : Type 0} {g : disk.Ghosts D} where
     pub turn_cut : (fails : Which → ℕ → Bool) (before : Plain) (which : Which) → IsTurnCut a' fails (history_of old) (history_of now) before which
         → IsCutAt a' fails puts (history_of old) (history_of now) before later which
     turn_cut fails before which (inl cut) =
-        subst (IsCutAt a' fails puts (history_of old) (history_of now) before later) (sym cut.0) (by (not a'.second) refl (inl (
-          refl,
-          record {
-            due = due;
-            at = cut.1.at;
-            failed = cut.1.failed;
-            root = cut.1.root;
-            told = cut.1.told;
-          },
-        )))
+        subst (IsCutAt a' fails puts (history_of old) (history_of now) before later) (sym cut.0) (by (not a'.second) refl (inl (refl, due, cut.1)))
       where
         by : (b : Bool) → not a'.second ≡ b → IsCutOn a' fails puts (history_of old) (history_of now) before later (not a'.second)
             → IsCutAt a' fails puts (history_of old) (history_of now) before later (journal_on (not a'.second))
@@ -287,14 +271,7 @@ module _ {D : Type 0} {g : disk.Ghosts D} where
             (subst (IsCutOn a' fails puts (history_of old) (history_of now) before later) is cut)
         by false is cut = subst (λ c. IsCutAt a' fails puts (history_of old) (history_of now) before later (journal_on c)) (sym is)
             (subst (IsCutOn a' fails puts (history_of old) (history_of now) before later) is cut)
-    turn_cut fails before which (inr cut) = subst (IsCutAt a' fails puts (history_of old) (history_of now) before later) (sym cut.0) (record {
-      due = due;
-      other = cut.1.other;
-      at = cut.1.at;
-      failed = cut.1.failed;
-      pending = cut.1.pending;
-      told = cut.1.told;
-    })
+    turn_cut fails before which (inr cut) = subst (IsCutAt a' fails puts (history_of old) (history_of now) before later) (sym cut.0) (due, cut.1)
 
   -- the calls of a checkpoint, and then those of the change
   module _ (old mid now : Store D g) (puts : List (List ℕ)) (host : Host) (later : Plain) (snapshot : List ℕ) (due : is_due (active_of old).records ≡ true)
@@ -313,19 +290,24 @@ module _ {D : Type 0} {g : disk.Ghosts D} where
     whole_is places gate payload = there_calls b due snapshot places puts gate payload
         ∙ ap (λ c. checkpoint_calls b snapshot ++ change_calls c places puts gate payload) (sym turned)
 
-    pub there_by : {Stands : List HostCall → List HostCall → Type 0}
-        → ((planned run : List HostCall) → Stands planned run → Stands (checkpoint_calls b snapshot ++ planned) (checkpoint_calls b snapshot ++ run))
-        → Changing Stands mid now puts host later → CommitsBy Stands b puts (history_of old) (history_of now)
-    there_by {Stands} behind c = record {
+    abbrev there_as : {Stands Other : List HostCall → List HostCall → Type 0}
+        → ((planned run : List HostCall) → Stands planned run → Other (checkpoint_calls b snapshot ++ planned) (checkpoint_calls b snapshot ++ run))
+        → Changing Stands mid now puts host later → CommitsBy Other b puts (history_of old) (history_of now)
+    there_as {Stands} {Other} behind c = record {
       snapshot = snapshot;
       places = c.places;
       gate = c.gate;
       payload = c.payload;
       run = checkpoint_calls b snapshot ++ c.run;
       many = c.many;
-      stands = subst (λ l. Stands l (checkpoint_calls b snapshot ++ c.run)) (sym (whole_is c.places c.gate c.payload)) (behind _ c.run c.stands);
+      stands = subst (λ l. Other l (checkpoint_calls b snapshot ++ c.run)) (sym (whole_is c.places c.gate c.payload)) (behind _ c.run c.stands);
       made = runs_both (history_of old) (history_of mid) (history_of now) (checkpoint_calls b snapshot) c.run checkpoint_run c.made;
     }
+
+    pub there_by : {Stands : List HostCall → List HostCall → Type 0}
+        → ((planned run : List HostCall) → Stands planned run → Stands (checkpoint_calls b snapshot ++ planned) (checkpoint_calls b snapshot ++ run))
+        → Changing Stands mid now puts host later → CommitsBy Stands b puts (history_of old) (history_of now)
+    there_by {Stands} behind c = there_as {Stands} {Stands} behind c
 
     -- the journal that the record goes to, before it
     mid_record : history_of mid (journal_of (active_of mid)) ≡ before_record b snapshot (history_of old)
@@ -340,18 +322,10 @@ module _ {D : Type 0} {g : disk.Ghosts D} where
         (moments_weaker (history_of old) (checkpoint_calls b snapshot) _ _ (λ images is. inl is) first)
         (subst (λ p. Moments (history_of mid) c.run (TellsOneOf p later)) same (c.at tells')) in
         record {
-          snapshot = snapshot;
-          places = c.places;
-          gate = c.gate;
-          payload = c.payload;
-          run = checkpoint_calls b snapshot ++ c.run;
-          many = c.many;
-          begun = subst (λ l. IsBegun l (checkpoint_calls b snapshot ++ c.run)) (sym (whole_is c.places c.gate c.payload))
-              (elim (begins _ c.run c.stands) [
-                | inl is ↦ inl (ap (λ l. checkpoint_calls b snapshot ++ l) is)
-                | inr is ↦ inr (behind_stops (checkpoint_calls b snapshot) _ c.run is)
-              ]);
-          made = runs_both (history_of old) (history_of mid) (history_of now) (checkpoint_calls b snapshot) c.run checkpoint_run c.made;
+          calls = there_as {Stands} {IsBegun} (λ planned run stands. elim (begins planned run stands) [
+            | inl is ↦ inl (ap (λ l. checkpoint_calls b snapshot ++ l) is)
+            | inr is ↦ inr (stops_behind failed_on (checkpoint_calls b snapshot) planned run is)
+          ]) c;
           told = m.told;
           settled = m.settled;
           one_more = λ is.

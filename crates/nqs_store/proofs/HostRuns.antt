@@ -191,20 +191,6 @@ on_stops v (p ∷ plan) (call ∷ next ∷ calls) rest short = (ap (λ c. (v, c)
 pub last_stops : (v : Which) (plan calls : List Call) → DiskStops plan calls → StopsShort (on v plan) (on v calls)
 last_stops v plan calls short = subst (λ l. StopsShort l (on v calls)) (append-nil (on v plan)) (on_stops v plan calls [] short)
 
-pub behind_stops : (done plan calls : List HostCall) → StopsShort plan calls → StopsShort (done ++ plan) (done ++ calls)
-behind_stops [] plan calls short = short
-behind_stops (d ∷ []) plan [] short = inr (refl, short)
-behind_stops (d ∷ []) plan (call ∷ calls) short = (refl, short)
-behind_stops (d ∷ next ∷ done) plan calls short = (refl, behind_stops (next ∷ done) plan calls short)
-
--- a plan goes on behind
-pub before_stops : (plan more calls : List HostCall) → StopsShort plan calls → StopsShort (plan ++ more) calls
-before_stops [] more calls short = absurd short
-before_stops (p ∷ plan) more [] short = tt
-before_stops (p ∷ plan) more (call ∷ []) (inl is) = inl is
-before_stops (p ∷ plan) more (call ∷ []) (inr is) = inr (is.0, before_stops plan more [] is.1)
-before_stops (p ∷ plan) more (call ∷ next ∷ calls) short = (short.0, before_stops plan more (next ∷ calls) short.1)
-
 -- nothing was done of a plan that has a call
 pub none_stops : (done plan : List HostCall) → StopsShort plan [] → StopsShort (done ++ plan) []
 none_stops [] plan short = short

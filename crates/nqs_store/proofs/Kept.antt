@@ -2,6 +2,7 @@
 use Rattle.std.proofs.Common.{◌≡◌, ◌⊎◌, inl, inr, ℕ, Bool, true, false, IsTrue, List, [], Ok, OnOk, OnErr, IsErrOf, refl, sym, ap, subst, ◌∙◌}
 use Rattle.std.proofs.Common.{◌≤◌, ◌∷◌, not, Err, arith}
 use Rattle.std.specs.declared.result.Result.{Result}
+use Rattle.nqs_base.specs.Extents.{extent_bytes}
 use Rattle.nqs_state.specs.State.{Plain}
 use Rattle.nqs_base.specs.declared.extent.Extent.{Extent}
 use Rattle.nqs_types.specs.declared.change.Change.{Change}
@@ -19,12 +20,11 @@ use Rattle.nqs_rules.specs.Plain.{map_state}
 use Rattle.nqs_rules.specs.World.{spool_calls}
 use Rattle.nqs_snapshot.specs.Reading.{snapshot_of}
 use Rattle.nqs_store.specs.Told.{Host}
-use Rattle.nqs_store.specs.Live.{bytes_at}
 use Rattle.nqs_store.specs.Active.{journal_of, other_of, turned_to, ready, recorded}
 use Rattle.nqs_journal.specs.Plan.{begin_calls, front_calls}
 use Rattle.nqs_journal.specs.Text.{snapshot_front}
 use Rattle.nqs_rules.specs.Journals.{byte_of}
-use Rattle.nqs_store.specs.Hosts.{on, HostCall, Runs, EachPrefix, StopsShort}
+use Rattle.nqs_store.specs.Hosts.{on, HostCall, Runs, EachPrefix, StopsShort, failed_on}
 use Rattle.nqs_store.specs.Plan.{CommitsBy, checkpoint_calls}
 use Rattle.nqs_store.specs.Images.{IsTold}
 use Rattle.nqs_store.specs.Commits.{AreClear, IsKept, IsCutAt, Keeping}
@@ -40,8 +40,9 @@ use Rattle.nqs_store.specs.declared.fault.StoreFault.TheVariants as store
 use Rattle.nqs_store.specs.Calls.{state_after, IsLeft, MayStop, KeepsChange, Records, Commits, TurnsOver, Checkpoints}
 use Rattle.nqs_store.specs.Steps.{IsTextOf}
 use Rattle.std.proofs.lemmas.Result.{on_ok_weaker, on_err_weaker}
+use Rattle.nqs_store.proofs.Runs.{stops_behind}
 use Rattle.nqs_store.proofs.Results.{ok_three, either_way}
-use Rattle.nqs_store.proofs.HostRuns.{none_stops, behind_stops, runs_none, moments_none, no_pending}
+use Rattle.nqs_store.proofs.HostRuns.{none_stops, runs_none, moments_none, no_pending}
 use Rattle.nqs_store.proofs.Committed.{quiet}
 use Rattle.nqs_store.proofs.TellsNow.{told_now}
 use Rattle.nqs_store.proofs.Composed.{here, there, here_by, here_keeping, here_kept, here_cut, there_by, there_keeping, there_kept, there_cut, turn_cut}
@@ -90,7 +91,7 @@ module _ {D : Type 0} {g : disk.Ghosts D} {E : Type 0} (r : Result (Unit {0}) E)
     fails_path = λ j w i. fuse w i j
 
     pub plain_mid : (h : Host) → plain_of mid h ≡ plain_of old h
-    plain_mid h = ap (λ s. map_state (bytes_at (content (g.history (spool.disk_of s)))) h) same_spool
+    plain_mid h = ap (λ s. map_state (extent_bytes (content (g.history (spool.disk_of s)))) h) same_spool
 
     pub there_made : OnOk r (Changing (λ planned run. run ≡ planned) mid now puts host later) → OnOk r (SpoolClear mid) → OnOk r (JournalClear mid)
         → OnOk r (IsKept (active_of old) (fails_of old) puts (history_of old) (history_of now))
@@ -102,7 +103,7 @@ module _ {D : Type 0} {g : disk.Ghosts D} {E : Type 0} (r : Result (Unit {0}) E)
 
     pub there_broken : OnErr r (Changing StopsShort mid now puts host later)
         → OnErr r (CommitsBy StopsShort (active_of old) puts (history_of old) (history_of now))
-    there_broken = on_err_weaker r (λ c. there_by old mid now puts host later snapshot due turned t (λ planned run short. behind_stops
+    there_broken = on_err_weaker r (λ c. there_by old mid now puts host later snapshot due turned t (λ planned run short. stops_behind failed_on
         (checkpoint_calls (active_of old) snapshot) planned run short) c)
 
     pub there_moments : OnOk r (Changing (λ planned run. run ≡ planned) mid now puts host later) → OnErr r (Changing StopsShort mid now puts host later)
@@ -124,7 +125,7 @@ module _ {D : Type 0} {g : disk.Ghosts D} {E : Type 0} (r : Result (Unit {0}) E)
 
 -- a checkpoint leaves the bytes of what is told
 pub plain_turned : {D : Type 0} {g : disk.Ghosts D} (old now : Store D g) → now.spool ≡ old.spool → (host : Host) → plain_of now host ≡ plain_of old host
-plain_turned {D} {g} old now same host = ap (λ s. map_state (bytes_at (content (g.history (spool.disk_of s)))) host) same
+plain_turned {D} {g} old now same host = ap (λ s. map_state (extent_bytes (content (g.history (spool.disk_of s)))) host) same
 
 -- a call of a checkpoint failed
 module _ {D : Type 0} {g : disk.Ghosts D} (old now : Store D g) (puts : List (List ℕ)) (host : Host) (later : Plain) (snapshot : List ℕ)
@@ -153,7 +154,7 @@ module _ {D : Type 0} {g : disk.Ghosts D} {E : Type 0} (r : Result (Unit {0}) E)
       (λ t. (t.run, t.made, (t.at reads tells).told)) (λ t. (t.run, t.made, (t.at reads tells).told)) made broken
 
   pub turn_told : now.spool ≡ old.spool → OnOk r (Tells now host) → OnOk r (Tells now host × (plain_of now host ≡ plain_of old host))
-  turn_told same = on_ok_weaker r (λ t. (t, ap (λ s. map_state (bytes_at (content (g.history (spool.disk_of s)))) host) same))
+  turn_told same = on_ok_weaker r (λ t. (t, ap (λ s. map_state (extent_bytes (content (g.history (spool.disk_of s)))) host) same))
 
 -- and none
 module _ {D : Type 0} {g : disk.Ghosts D} (yes : IsTrue g.tells) (old : Store D g) (host : Host) (tells : Tells old host) where

@@ -4,13 +4,12 @@ use Rattle.nqs_types.specs.declared.world.Which.{Which}
 use Rattle.nqs_types.specs.declared.world.Which.TheVariants.{Root, Spool}
 use Rattle.nqs_outside.specs.History.{History, content, IsQuiet}
 use Rattle.nqs_outside.specs.declared.disk.Disk as disk
-use Rattle.nqs_journal.specs.Either.{StandsBy}
 use Rattle.nqs_rules.specs.Journals.{is_second, journal_on}
 use Rattle.nqs_store.specs.Told.{Host}
 use Rattle.nqs_store.specs.Active.{IsActive}
 use Rattle.nqs_store.specs.Disks.{contents}
-use Rattle.nqs_store.specs.Images.{IsToldHost}
-use Rattle.nqs_store.specs.Opens.{AreRead, AreOpened}
+use Rattle.nqs_store.specs.Images.{AreRead, IsToldHost}
+use Rattle.nqs_store.specs.Opens.{AreOpened}
 use Rattle.nqs_store.specs.Faults.{IsBytesFault, IsLoadFault}
 use Rattle.nqs_store.specs.declared.fault.LoadFault.{LoadFault}
 use Rattle.nqs_store.specs.Reads.{OnlyReads, FailedToRead, OnlyReadsOne, OneFailedToRead}
@@ -21,14 +20,7 @@ use Rattle.nqs_store.proofs.TellsNow.{active_stands, active_image, told_host}
 -- bytes whose root names the journal tell what that journal tells
 pub read_told : (bytes : Which → List ℕ) (b : Bool) (host : Host) → b ≡ is_second (bytes Root) → AreRead (bytes (journal_on b)) (bytes Spool) host
     → IsToldHost bytes host
-read_told bytes b host names is = record {
-  has = is.has;
-  snapshot = is.snapshot;
-  payloads = is.payloads;
-  stands = subst (λ c. StandsBy (bytes (journal_on c)) is.has is.snapshot is.payloads) names is.stands;
-  tells = is.tells;
-  sound = is.sound;
-}
+read_told bytes b host names is = subst (λ c. AreRead (bytes (journal_on c)) (bytes Spool) host) names is
 
 pub read_fault : (bytes : Which → List ℕ) (b : Bool) (fault : LoadFault) → b ≡ is_second (bytes Root)
     → IsBytesFault (journal_on b) (bytes (journal_on b)) (bytes Spool) fault → IsLoadFault bytes fault

@@ -1,6 +1,7 @@
 -- A store for whose next change memory was taken is on the same disks, and tells the same.
 use Rattle.std.proofs.Common.{rules, ◌≡◌, ◌⊎◌, inl, inr, ◌∙◌, ◌≤◌, ℕ, not, IsTrue, List, OnOk, OnErr, sym, ap, subst}
 use Rattle.std.specs.declared.result.Result.{Result}
+use Rattle.nqs_base.specs.Extents.{extent_bytes}
 use Rattle.nqs_types.specs.declared.change.Change.{Change}
 use Rattle.nqs_rules.specs.Applied.{applied}
 use Rattle.nqs_rules.specs.Filled.{filled}
@@ -16,7 +17,7 @@ use Rattle.nqs_rules.specs.Journals.{is_second, journal_on}
 use Rattle.nqs_rules.specs.Plain.{map_state}
 use Rattle.nqs_store.specs.Active.{Active}
 use Rattle.nqs_store.specs.Told.{Host}
-use Rattle.nqs_store.specs.Live.{live, bytes_at}
+use Rattle.nqs_store.specs.Live.{live}
 use Rattle.nqs_store.specs.Stores.{Tells, disk_of, history_of, fails_of, is_starved, plain_of, active_of, journal_in, pick}
 use Rattle.nqs_store.specs.declared.store.Store.{Store}
 use Rattle.nqs_store.specs.Hosts.{StopsShort}
@@ -44,7 +45,7 @@ module _ {D : Type 0} {g : disk.Ghosts D} (old now : Store D g) (root : now.root
   active_path = λ j. record { second = on j; records = journal.count_of (journal_path j) }
 
   pub plain_path : (host : Host) → plain_of now host ≡ plain_of old host
-  plain_path host = ap (λ d. map_state (bytes_at (content (g.history d))) host) same
+  plain_path host = ap (λ d. map_state (extent_bytes (content (g.history d))) host) same
 
   -- what was told is told
   pub tells_same : (host : Host) → ((l : List Extent) → spool.Tells old.spool l → spool.Tells now.spool l) → Tells old host → Tells now host

@@ -3,7 +3,7 @@ use Rattle.std.proofs.Common.{◌≡◌, inl, inr, ℕ, suc, List, [], ◌∷◌
 use Rattle.std.proofs.lemmas.List.{append-nil, length-map}
 use Rattle.nqs_base.specs.declared.extent.Extent.{Extent}
 use Rattle.std.proofs.Math.Seq.{take-length}
-use Rattle.nqs_outside.specs.History.{Call, State, History, content, state, state_at, after, fresh, extended, moment, IsImage, IsQuiet, EachSince, StopsShort}
+use Rattle.nqs_outside.specs.History.{Call, failed, State, History, content, state, state_at, after, fresh, extended, moment, IsImage, IsQuiet, EachSince, StopsShort}
 use Rattle.nqs_store.proofs.TellsNow.{only_image}
 use Rattle.nqs_outside.specs.declared.disk.Disk as disk
 use Rattle.nqs_outside.proofs.Histories.{goes_on}
@@ -36,7 +36,7 @@ first_failed h k put later place calls made short = record {
   calls = calls;
   many = ap suc (length-map later (λ _. 0));
   made = made;
-  short = stops_before (put_calls place put) (puts_calls (map (λ _. 0) later) later) calls short;
+  short = stops_before failed (put_calls place put) (puts_calls (map (λ _. 0) later) later) calls short;
 }
 
 pub first_broken : (h k : History) (puts : List (List ℕ)) (put : List ℕ) (later : List (List ℕ)) → puts ≡ put ∷ later
@@ -50,7 +50,7 @@ later_broken h j k puts put later place is made b = subst (λ l. ArePartlyPut l 
   calls = put_calls place put ++ b.calls;
   many = ap suc b.many;
   made = goes_on h j k (put_calls place put) b.calls made b.made;
-  short = stops_behind (put_calls place put) (puts_calls b.places later) b.calls b.short;
+  short = stops_behind failed (put_calls place put) (puts_calls b.places later) b.calls b.short;
 })
 
 module _ {D : Type 0} {g : disk.Ghosts D} where

@@ -7,8 +7,7 @@ use Rattle.nqs_types.specs.declared.world.Which.{Which}
 use Rattle.nqs_types.specs.declared.world.Which.TheVariants.{Root, Spool}
 use Rattle.nqs_rules.specs.Journals.{is_second, journal_on}
 use Rattle.nqs_store.specs.Told.{Host}
-use Rattle.nqs_store.specs.Images.{IsToldHost}
-use Rattle.nqs_store.specs.Opens.{AreRead}
+use Rattle.nqs_store.specs.Images.{AreRead, IsToldHost}
 use Rattle.nqs_store.specs.Faults.{IsBytesFault, IsLoadFault}
 use Rattle.nqs_store.specs.declared.fault.LoadFault.{LoadFault}
 use Rattle.nqs_store.specs.declared.fault.LoadFault.TheVariants as load

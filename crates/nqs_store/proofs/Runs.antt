@@ -2,7 +2,7 @@
 use Rattle.std.proofs.Common.{◌≡◌, ◌⊎◌, inl, inr, ℕ, suc, ◌+◌, ◌-◌, ◌<◌, ◌≤◌, Bool, true, false, List, [], ◌∷◌, ◌++◌, take, drop, length, if◌then◌else◌, IsTrue}
 use Rattle.std.proofs.Common.{refl, sym, ap, subst, ◌∙◌, arith, length-append, true≢false}
 use Rattle.std.proofs.lemmas.List.{append-nil, take-append-le, drop_at}
-use Rattle.nqs_outside.specs.History.{Call, write, sync, failed, fresh, History, extended, moment, after, state_at, IsImage, EachSince, StopsShort, answered}
+use Rattle.nqs_outside.specs.History.{Call, write, sync, failed, fresh, History, extended, moment, after, state_at, IsImage, EachSince, StopsShort, StopsShortBy, answered}
 use Rattle.nqs_outside.specs.History.{IsExact}
 use Rattle.std.proofs.lemmas.Bool.{cases_lt}
 use Rattle.nqs_base.specs.Want.{want}
@@ -32,18 +32,19 @@ each_since_both h j k calls P is first second = λ t image from to leaves. elim 
 
 -- a plan goes on behind
 
-pub stops_before : (plan more calls : List Call) → StopsShort plan calls → StopsShort (plan ++ more) calls
-stops_before [] more calls short = absurd short
-stops_before (p ∷ plan) more [] short = tt
-stops_before (p ∷ plan) more (call ∷ []) (inl is) = inl is
-stops_before (p ∷ plan) more (call ∷ []) (inr is) = inr (is.0, stops_before plan more [] is.1)
-stops_before (p ∷ plan) more (call ∷ next ∷ calls) short = (short.0, stops_before plan more (next ∷ calls) short.1)
+module _ {A : Type 0} (as_failed : A → A) where
+  pub stops_before : (plan more calls : List A) → StopsShortBy as_failed plan calls → StopsShortBy as_failed (plan ++ more) calls
+  stops_before [] more calls short = absurd short
+  stops_before (p ∷ plan) more [] short = tt
+  stops_before (p ∷ plan) more (call ∷ []) (inl is) = inl is
+  stops_before (p ∷ plan) more (call ∷ []) (inr is) = inr (is.0, stops_before plan more [] is.1)
+  stops_before (p ∷ plan) more (call ∷ next ∷ calls) short = (short.0, stops_before plan more (next ∷ calls) short.1)
 
-pub stops_behind : (done plan calls : List Call) → StopsShort plan calls → StopsShort (done ++ plan) (done ++ calls)
-stops_behind [] plan calls short = short
-stops_behind (d ∷ []) plan [] short = inr (refl, short)
-stops_behind (d ∷ []) plan (call ∷ calls) short = (refl, short)
-stops_behind (d ∷ next ∷ done) plan calls short = (refl, stops_behind (next ∷ done) plan calls short)
+  pub stops_behind : (done plan calls : List A) → StopsShortBy as_failed plan calls → StopsShortBy as_failed (done ++ plan) (done ++ calls)
+  stops_behind [] plan calls short = short
+  stops_behind (d ∷ []) plan [] short = inr (refl, short)
+  stops_behind (d ∷ []) plan (call ∷ calls) short = (refl, short)
+  stops_behind (d ∷ next ∷ done) plan calls short = (refl, stops_behind (next ∷ done) plan calls short)
 
 -- which call was to fail
 

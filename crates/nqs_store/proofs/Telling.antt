@@ -4,7 +4,7 @@ use Rattle.std.proofs.Common.{length-append, slice_get, Option, Some}
 use Rattle.std.proofs.Common.{None, Ok, Err, is_some, refl, sym, ap, subst, ◌∙◌, arith, append_assoc}
 use Rattle.std.proofs.lemmas.Option.{none-some}
 use Rattle.nqs_base_tables.proofs.TableLemmas.{drop-at}
-use Rattle.nqs_journal.specs.Text.{header, snapshot_front, records, frame}
+use Rattle.nqs_journal.specs.Text.{header, records, frame}
 use Rattle.nqs_journal.proofs.Texts.{length-frame}
 use Rattle.nqs_journal.proofs.Fronts.{length-front}
 use Rattle.nqs_records.specs.Reading.{Read}
@@ -22,7 +22,7 @@ use Rattle.nqs_rules.proofs.KeyFacts.{any-before}
 use Rattle.nqs_rules.proofs.RowFacts.{same_id}
 use Rattle.std.proofs.lemmas.Bool.{or_left, or_right}
 use Rattle.nqs_changes.specs.Running.{runs_in}
-use Rattle.nqs_store.specs.Told.{Host, record_taken, told, told_from, told_by, told_behind, IsUntoldBehind}
+use Rattle.nqs_store.specs.Told.{Host, record_taken, told, told_from, told_by, told_behind, IsBadFrom, IsUntoldBehind}
 use Rattle.nqs_store.specs.TellFaults.{IsRefused, IsTakenFault, IsTellFault}
 use Rattle.nqs_store.specs.declared.tell.TellFault.{TellFault}
 use Rattle.nqs_store.specs.declared.tell.TellFault.TheVariants.{Untold, Memory}
@@ -168,15 +168,8 @@ bad_snapshot snapshot payloads (Memory memory) bad = tt
 
 pub bad_behind : (snapshot : List ℕ) (payloads : List (List ℕ)) (host : Host) (place : ℕ) (fault : TellFault) → snapshot_of snapshot ≡ Ok host
     → place ≡ 24 + length snapshot → IsTakenFault host place payloads fault → IsTellFault true snapshot payloads fault
-bad_behind snapshot payloads host place (Untold at) reads stands bad = subst (λ r. IsUntoldBehind r snapshot payloads at) (sym reads) (record {
-  before = bad.before;
-  payload = bad.payload;
-  later = bad.later;
-  is = bad.is;
-  so_far = bad.so_far;
-  bad = bad.bad;
-  at = omega (arith, bad.stands, stands, length-append (snapshot_front snapshot) (records bad.before), length-front snapshot);
-})
+bad_behind snapshot payloads host place (Untold at) reads stands bad = subst (λ r. IsUntoldBehind r snapshot payloads at) (sym reads)
+    (subst (λ p. IsBadFrom host p payloads at) (stands ∙ sym (length-front snapshot)) bad)
 bad_behind snapshot payloads host place (Memory memory) reads stands bad = tt
 
 -- the requests that run

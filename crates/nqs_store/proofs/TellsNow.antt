@@ -1,5 +1,6 @@
 -- What a store tells is what its disks hold.
 use Rattle.std.proofs.Common.{◌≡◌, ◌∙◌, IsTrue, List, ℕ, length, sym, ap, subst}
+use Rattle.nqs_base.specs.Extents.{extent_bytes}
 use Rattle.nqs_types.specs.declared.world.Which.{Which}
 use Rattle.nqs_types.specs.declared.world.Which.TheVariants.{Root, Spool}
 use Rattle.nqs_outside.specs.History.{State, History, state, content, IsImage, IsQuiet}
@@ -11,7 +12,6 @@ use Rattle.nqs_journal.proofs.Eithers.{one_reading}
 use Rattle.nqs_rules.specs.Plain.{map_state}
 use Rattle.nqs_rules.specs.Journals.{journal_on, is_second}
 use Rattle.nqs_store.specs.Told.{Host}
-use Rattle.nqs_store.specs.Live.{bytes_at}
 use Rattle.nqs_store.specs.Active.{Active, IsActive, journal_of}
 use Rattle.nqs_store.specs.Stores.{history_of, plain_of, active_of, journal_in, Tells}
 use Rattle.nqs_store.specs.Images.{IsToldHost}
@@ -76,7 +76,7 @@ module _ {D : Type 0} {g : disk.Ghosts D} (store : Store D g) (host : Host) (tel
             host = host;
             is = told_host images named stands (subst (λ b. Rattle.nqs_spool.specs.Extents.AreSound (length b) (Rattle.nqs_store.specs.Live.live host)) spool
                 (record { apart = tells.spool.live.apart; within = tells.spool.within yes }));
-            bytes = ap (λ b. map_state (bytes_at b) host) (sym spool);
+            bytes = ap (λ b. map_state (extent_bytes b) host) (sym spool);
           },
           active_image images named stands,
         )

@@ -15,16 +15,16 @@ use Rattle.nqs_spool.specs.Spooled as spool
 use Rattle.nqs_snapshot.specs.Reading.{snapshot_of}
 use Rattle.nqs_store.specs.Told.{Host, told_behind}
 use Rattle.nqs_store.specs.Live.{live}
-use Rattle.nqs_store.specs.Hosts.{on, Runs, StopsShort as HostStops}
+use Rattle.nqs_store.specs.Hosts.{failed_on, on, Runs, StopsShort as HostStops}
 use Rattle.nqs_store.specs.Images.{IsTold}
 use Rattle.nqs_store.specs.Moments.{Moments}
-use Rattle.nqs_store.specs.Commits.{AreClear}
-use Rattle.nqs_store.specs.Changing.{Turning, CutOther, CutRoot, IsTurnCut}
+use Rattle.nqs_store.specs.Commits.{AreClear, IsCutAtOther, IsCutAtRoot}
+use Rattle.nqs_store.specs.Changing.{Turning, IsTurnCut}
 use Rattle.nqs_store.specs.Steps.{IsTextOf, HasBegun, HasBegunShort}
 use Rattle.nqs_store.specs.Stores.{Tells, history_of, plain_of, active_of, fails_of, is_starved, journal_in, pick}
 use Rattle.nqs_store.specs.declared.store.Store.{Store}
-use Rattle.nqs_store.proofs.Runs.{cut_short}
-use Rattle.nqs_store.proofs.HostRuns.{runs_on, runs_both, moments_both, on_stops, last_stops, behind_stops}
+use Rattle.nqs_store.proofs.Runs.{cut_short, stops_behind}
+use Rattle.nqs_store.proofs.HostRuns.{runs_on, runs_both, moments_both, on_stops, last_stops}
 use Rattle.nqs_store.proofs.EachDisk.{each_of, with_disk, at_disk, but_disk, root_apart, spool_apart, journals_apart, stands_on, history_on}
 use Rattle.nqs_store.proofs.TellsNow.{active_quiet}
 use Rattle.nqs_store.proofs.Turning.{root_quiet, root_names, root_pending, quiet_told, either_told, snapshot_stands, root_moments, other_moments}
@@ -85,7 +85,7 @@ module _ {D : Type 0} {g : disk.Ghosts D} (old now : Store D g) (text snapshot :
         (subst (λ d. IsExact (g.fails d) (g.starved d) (g.starved nd) (g.history d) (g.history nd) (begin_calls text)) (sym (stands_on (not old.on_second) old))
         (short.exact yes))
 
-    pub other_cut : Tells old host → IsTrue (is_starved now y) ⊎ CutOther (active_of old) (fails_of old) o n (plain_of old host)
+    pub other_cut : Tells old host → IsTrue (is_starved now y) ⊎ IsCutAtOther (active_of old) (fails_of old) o n (plain_of old host)
     other_cut tells =
         let broken = short.broken yes in
         elim (cut_short (fails_of old y) (is_starved old y) (is_starved now y) (o y) (n y) (begin_calls text) broken.0 (refl, (refl, tt))
@@ -140,7 +140,7 @@ module _ {D : Type 0} {g : disk.Ghosts D} (old now : Store D g) (text snapshot :
     pub root_failed : (calls : List Call) → n Root ≡ extended (o Root) calls → StopsShort root_plan calls → Turning HostStops old now snapshot host
     root_failed calls did cut = record {
       run = on y (front_calls (snapshot_front snapshot)) ++ on Root calls;
-      stands = behind_stops (on y (front_calls (snapshot_front snapshot))) (on Root root_plan) (on Root calls) (last_stops Root root_plan calls cut);
+      stands = stops_behind failed_on (on y (front_calls (snapshot_front snapshot))) (on Root root_plan) (on Root calls) (last_stops Root root_plan calls cut);
       made = runs_both o mid n (on y (front_calls (snapshot_front snapshot))) (on Root calls) first_run (root_run calls did);
       at = all_moments calls did;
     }
@@ -151,7 +151,7 @@ module _ {D : Type 0} {g : disk.Ghosts D} (old now : Store D g) (text snapshot :
 
     pub root_cut : (was starved : Bool) (calls : List Call) → n Root ≡ extended (o Root) calls → StopsShort root_plan calls
         → snapshot_of snapshot ≡ Ok host → Tells old host → IsExact (fails_of old Root) was starved (o Root) (n Root) root_plan
-        → IsTrue starved ⊎ CutRoot (active_of old) (fails_of old) o n (plain_of old host)
+        → IsTrue starved ⊎ IsCutAtRoot (active_of old) (fails_of old) o n (plain_of old host)
     root_cut was starved calls did short reads tells exact =
         elim (cut_short (fails_of old Root) was starved (o Root) (n Root) root_plan calls (refl, (refl, tt)) did short exact) [
           | inl is ↦ inl is
@@ -200,14 +200,14 @@ module _ {D : Type 0} {g : disk.Ghosts D} (old now : Store D g) (text snapshot :
 
 module _ {D : Type 0} {g : disk.Ghosts D} (old now : Store D g) (before : Plain) where
   pub other_at : (which : Which) → journal_on (not old.on_second) ≡ which
-      → IsTrue (is_starved now (journal_on (not old.on_second))) ⊎ CutOther (active_of old) (fails_of old) (history_of old) (history_of now) before
+      → IsTrue (is_starved now (journal_on (not old.on_second))) ⊎ IsCutAtOther (active_of old) (fails_of old) (history_of old) (history_of now) before
       → IsTrue (is_starved now which) ⊎ IsTurnCut (active_of old) (fails_of old) (history_of old) (history_of now) before which
   other_at which is cut =
       subst (λ w. IsTrue (is_starved now w) ⊎ IsTurnCut (active_of old) (fails_of old) (history_of old) (history_of now) before w) is
       (elim cut [ inl starves ↦ inl starves | inr fell ↦ inr (inl (refl, fell)) ])
 
   pub root_at : (which : Which) → Root ≡ which
-      → IsTrue (is_starved now Root) ⊎ CutRoot (active_of old) (fails_of old) (history_of old) (history_of now) before
+      → IsTrue (is_starved now Root) ⊎ IsCutAtRoot (active_of old) (fails_of old) (history_of old) (history_of now) before
       → IsTrue (is_starved now which) ⊎ IsTurnCut (active_of old) (fails_of old) (history_of old) (history_of now) before which
   root_at which is cut =
       subst (λ w. IsTrue (is_starved now w) ⊎ IsTurnCut (active_of old) (fails_of old) (history_of old) (history_of now) before w) is

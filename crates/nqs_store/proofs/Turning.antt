@@ -2,6 +2,7 @@
 use Rattle.std.proofs.Common.{◌≡◌, ◌≢◌, ◌⊎◌, inl, inr, ℕ, ◌<◌, ◌≤◌, ◌^◌, Bool, true, false, not, IsTrue, if◌then◌else◌, List, [], ◌∷◌, length, Ok, refl, sym}
 use Rattle.std.proofs.Common.{ap}
 use Rattle.std.proofs.Common.{subst, ◌∙◌, arith}
+use Rattle.nqs_base.specs.Extents.{extent_bytes}
 use Rattle.nqs_types.specs.declared.world.Which.{Which}
 use Rattle.nqs_types.specs.declared.world.Which.TheVariants.{Root, Spool}
 use Rattle.nqs_outside.specs.History.{Call, sync, State, History, fresh, content, state, after, written, extended, IsImage, IsQuiet, StopsShort}
@@ -16,7 +17,7 @@ use Rattle.nqs_rules.specs.Plain.{map_state}
 use Rattle.nqs_rules.specs.Journals.{is_second, journal_on, byte_of, behind_byte}
 use Rattle.nqs_snapshot.specs.Reading.{snapshot_of}
 use Rattle.nqs_store.specs.Told.{Host, told_behind}
-use Rattle.nqs_store.specs.Live.{live, bytes_at}
+use Rattle.nqs_store.specs.Live.{live}
 use Rattle.nqs_store.specs.Active.{Active, IsActive, turned_to, named_in}
 use Rattle.nqs_store.specs.Hosts.{on}
 use Rattle.nqs_store.specs.Images.{IsTold}
@@ -101,8 +102,8 @@ module _ {D : Type 0} {g : disk.Ghosts D} (yes : IsTrue g.tells) (old : Store D 
   sound_image image leaves = subst (λ b. AreSound (length b) (live host)) (only_image s image (is_told.spool.quiet yes) leaves)
       (record { apart = is_told.spool.live.apart; within = is_told.spool.within yes })
 
-  bytes_image : (image : List ℕ) → IsImage (state s) image → map_state (bytes_at image) host ≡ plain_of old host
-  bytes_image image leaves = ap (λ b. map_state (bytes_at b) host) (sym (only_image s image (is_told.spool.quiet yes) leaves))
+  bytes_image : (image : List ℕ) → IsImage (state s) image → map_state (extent_bytes image) host ≡ plain_of old host
+  bytes_image image leaves = ap (λ b. map_state (extent_bytes b) host) (sym (only_image s image (is_told.spool.quiet yes) leaves))
 
   -- where the root names the active journal, what it tells stays
   pub active_told : (images : Which → List ℕ) → is_second (images Root) ≡ old.on_second

@@ -1,15 +1,14 @@
 -- What the two parts of a commit leave: a checkpoint, and the calls of the change.
-use Rattle.std.specs.Prelude.{◌≡◌, ◌⊎◌, ℕ, ◌<◌, ◌≤◌, Bool, List, [], ◌∷◌, length, Ok}
+use Rattle.std.specs.Prelude.{◌≡◌, ◌⊎◌, ℕ, ◌<◌, ◌≤◌, Bool, List, length, Ok}
 use Rattle.nqs_state.specs.State.{Plain}
 use Rattle.nqs_types.specs.declared.world.Which.{Which}
 use Rattle.nqs_types.specs.declared.world.Which.TheVariants.{Root, Spool}
-use Rattle.nqs_outside.specs.History.{History, state, content, moment}
+use Rattle.nqs_outside.specs.History.{History, moment}
 use Rattle.nqs_outside.specs.declared.disk.Disk as disk
-use Rattle.nqs_rules.specs.Journals.{turned}
 use Rattle.nqs_rules.specs.World.{spool_calls}
 use Rattle.nqs_snapshot.specs.Reading.{snapshot_of}
-use Rattle.nqs_store.specs.Active.{Active, IsActive, journal_of, other_of, named_in}
-use Rattle.nqs_store.specs.Commits.{AreClear, FailsFirst, EachImage, HasOneMore, LeavesHost, IsAtHostGate}
+use Rattle.nqs_store.specs.Active.{Active, journal_of, other_of}
+use Rattle.nqs_store.specs.Commits.{AreClear, FailsFirst, HasOneMore, LeavesHost, IsAtHostGate, IsCutAtOther, IsCutAtRoot}
 use Rattle.nqs_store.specs.Hosts.{HostCall, Runs}
 use Rattle.nqs_store.specs.Images.{IsTold, TellsOneOf}
 use Rattle.nqs_store.specs.Moments.{Moments}
@@ -47,24 +46,9 @@ pub record IsTurned (a : Active) (fails : Which → ℕ → Bool) (old : Which �
   pub root : AreClear (fails Root) (moment (old Root)) 2
 
 module _ (a : Active) (fails : Which → ℕ → Bool) (old now : Which → History) (before : Plain) where
-  -- a call of the other journal failed
-  pub record CutOther : Type 0 where
-    pub at : ℕ
-    pub failed : FailsFirst (fails (other_of a)) (moment (old (other_of a))) 2 at
-    pub root : now Root ≡ old Root
-    pub told : LeavesHost now before a
-
-  -- a call of the root failed
-  pub record CutRoot : Type 0 where
-    pub other : AreClear (fails (other_of a)) (moment (old (other_of a))) 2
-    pub at : ℕ
-    pub failed : FailsFirst (fails Root) (moment (old Root)) 2 at
-    pub pending : state (now Root) ≡ record { synced = content (old Root); content = turned (content (old Root)); ranges = (0, 1) ∷ [] }
-    pub told : EachImage now (λ images. IsTold images before × IsActive images (named_in (images Root) a))
-
   -- a call of this disk cut a checkpoint off
   abbrev pub IsTurnCut : Which → Type 0
-  IsTurnCut which = ((which ≡ other_of a) × CutOther) ⊎ ((which ≡ Root) × CutRoot)
+  IsTurnCut which = ((which ≡ other_of a) × IsCutAtOther a fails old now before) ⊎ ((which ≡ Root) × IsCutAtRoot a fails old now before)
 
 module _ (a : Active) (fails : Which → ℕ → Bool) (puts : List (List ℕ)) (old now : Which → History) (before after : Plain) where
   -- a call of the spool failed

@@ -1,5 +1,5 @@
 -- What a commit leaves of a host's disks: the calls that it made, and where a stop cut it off.
-use Rattle.std.specs.Prelude.{◌≡◌, ◌≢◌, ◌⊎◌, ℕ, ◌+◌, ◌<◌, ◌≤◌, true, false, Bool, IsTrue, not, if◌then◌else◌, List, [], ◌∷◌, ◌++◌, length, take}
+use Rattle.std.specs.Prelude.{◌≡◌, ◌≢◌, ◌⊎◌, ℕ, ◌+◌, ◌<◌, ◌≤◌, true, false, Bool, IsTrue, not, if◌then◌else◌, List, [], ◌∷◌, ◌++◌, take}
 use Rattle.nqs_state.specs.State.{Plain}
 use Rattle.nqs_types.specs.declared.world.Which.{Which}
 use Rattle.nqs_types.specs.declared.world.Which.TheVariants.{Root, First, Second, Spool}
@@ -10,7 +10,7 @@ use Rattle.nqs_journal.specs.Plan.{begin_calls}
 use Rattle.nqs_rules.specs.Journals.{is_due, turned, byte_of}
 use Rattle.nqs_rules.specs.World.{spool_calls}
 use Rattle.nqs_store.specs.Active.{Active, IsActive, journal_of, other_of, ready, recorded, named_in}
-use Rattle.nqs_store.specs.Hosts.{HostCall, StopsShort, Runs, EachPrefix, part}
+use Rattle.nqs_store.specs.Hosts.{HostCall, StopsShort, EachPrefix, part}
 use Rattle.nqs_store.specs.Images.{IsTold, TellsOneOf}
 use Rattle.nqs_store.specs.Plan.{CommitsBy, due_calls, commit_calls}
 
@@ -80,17 +80,11 @@ before_record a snapshot old = extended (old (journal_of (ready a))) (part (jour
 -- state before the change or the one after it, and at most one of the disks has writes pending.
 -- Where all were made, the journal has one record more.
 pub record Keeping (a : Active) (puts : List (List ℕ)) (old now : Which → History) (before later : Plain) : Type 0 where
-  pub snapshot : List ℕ
-  pub places : List ℕ
-  pub gate : ℕ
-  pub payload : List ℕ
-  pub run : List HostCall
-  pub many : length places ≡ length puts
-  pub begun : IsBegun (commit_calls a snapshot places puts gate payload) run
-  pub made : Runs old now run
-  pub told : EachPrefix old run (TellsOneOf before later)
-  pub settled : (j : ℕ) (v w : Which) → v ≢ w → IsSettled old (take j run) v ⊎ IsSettled old (take j run) w
-  pub one_more : run ≡ commit_calls a snapshot places puts gate payload → HasOneMore (before_record a snapshot old) (now (journal_of (ready a)))
+  pub calls : CommitsBy IsBegun a puts old now
+  pub told : EachPrefix old calls.run (TellsOneOf before later)
+  pub settled : (j : ℕ) (v w : Which) → v ≢ w → IsSettled old (take j calls.run) v ⊎ IsSettled old (take j calls.run) w
+  pub one_more : calls.run ≡ commit_calls a calls.snapshot calls.places puts calls.gate calls.payload
+      → HasOneMore (before_record a calls.snapshot old) (now (journal_of (ready a)))
 
 -- Whatever images the disks may leave now tell the state, and this is the active journal.
 abbrev pub LeavesHost : (Which → History) → Plain → Active → Type 0
@@ -107,10 +101,9 @@ pub record IsAtHostGate (a : Active) (now : Which → History) (before after : P
       (λ image. (images : Which → List ℕ) → AreImages now images (journal_of a) image → IsTold images before × IsActive images a)
       (λ image. (images : Which → List ℕ) → AreImages now images (journal_of a) image → IsTold images after × IsActive images (recorded a))
 
-module _ (a : Active) (fails : Which → ℕ → Bool) (puts : List (List ℕ)) (old now : Which → History) (before after : Plain) where
+module _ (a : Active) (fails : Which → ℕ → Bool) (old now : Which → History) (before : Plain) where
   -- A call of a checkpoint failed, by which the other journal is written. The active one stays.
   pub record IsCutAtOther : Type 0 where
-    pub due : IsTrue (is_due a.records)
     pub at : ℕ
     pub failed : FailsFirst (fails (other_of a)) (moment (old (other_of a))) 2 at
     pub root : now Root ≡ old Root
@@ -119,13 +112,13 @@ module _ (a : Active) (fails : Which → ℕ → Bool) (puts : List (List ℕ)) 
   -- A call of a checkpoint failed, by which the root is turned over. Only its first byte is
   -- pending, and whichever journal it names tells the state before the change.
   pub record IsCutAtRoot : Type 0 where
-    pub due : IsTrue (is_due a.records)
     pub other : AreClear (fails (other_of a)) (moment (old (other_of a))) 2
     pub at : ℕ
     pub failed : FailsFirst (fails Root) (moment (old Root)) 2 at
     pub pending : state (now Root) ≡ record { synced = content (old Root); content = turned (content (old Root)); ranges = (0, 1) ∷ [] }
     pub told : EachImage now (λ images. IsTold images before × IsActive images (named_in (images Root) a))
 
+module _ (a : Active) (fails : Which → ℕ → Bool) (puts : List (List ℕ)) (old now : Which → History) (before after : Plain) where
   -- a call of the spool failed
   pub record IsCutAtSpool : Type 0 where
     pub past : IsPast a fails old
@@ -145,13 +138,15 @@ module _ (a : Active) (fails : Which → ℕ → Bool) (puts : List (List ℕ)) 
     pub told : at < 2 → LeavesHost now before (ready a)
     pub gate : 2 ≤ at → IsAtHostGate (ready a) now before after
 
-  -- a call of one of the journals, of that on `second` or of the other, cut a commit off
+  -- a call of one of the journals, of that on `second` or of the other, cut a commit off: one of a
+  -- checkpoint, which was due, or one of the record
   abbrev pub IsCutOn : Bool → Type 0
-  IsCutOn second = ((not a.second ≡ second) × IsCutAtOther) ⊎ (((ready a).second ≡ second) × IsCutAtRecord)
+  IsCutOn second = ((not a.second ≡ second) × IsTrue (is_due a.records) × IsCutAtOther a fails old now before)
+      ⊎ (((ready a).second ≡ second) × IsCutAtRecord)
 
-  -- a call of this disk cut a commit off
+  -- a call of this disk cut a commit off; one of the root, where a checkpoint was due
   abbrev pub IsCutAt : Which → Type 0
-  IsCutAt Root = IsCutAtRoot
+  IsCutAt Root = IsTrue (is_due a.records) × IsCutAtRoot a fails old now before
   IsCutAt First = IsCutOn false
   IsCutAt Second = IsCutOn true
   IsCutAt Spool = IsCutAtSpool

@@ -1,8 +1,8 @@
 -- Calls of a host's disks, in one order.
-use Rattle.std.specs.Prelude.{◌≡◌, ◌⊎◌, ℕ, ◌≤◌, Bool, true, false, if◌then◌else◌, List, [], ◌∷◌, map, length, take}
+use Rattle.std.specs.Prelude.{◌≡◌, ℕ, ◌≤◌, Bool, true, false, if◌then◌else◌, List, [], ◌∷◌, map, length, take}
 use Rattle.nqs_types.specs.declared.world.Which.{Which}
 use Rattle.nqs_types.specs.declared.world.Which.TheVariants.{Root, First, Second, Spool}
-use Rattle.nqs_outside.specs.History.{Call, History, failed, extended, state, after, IsImage}
+use Rattle.nqs_outside.specs.History.{Call, History, failed, extended, state, after, IsImage, StopsShortBy}
 
 -- a call of one of the disks
 abbrev pub HostCall : Type 0
@@ -46,7 +46,4 @@ failed_on call = (call.0, failed call.1)
 -- A prefix of the planned calls was made, of which only the last may have failed, and not all were
 -- made and answered Ok.
 abbrev pub StopsShort : List HostCall → List HostCall → Type 0
-StopsShort [] calls = ⊥
-StopsShort (plan ∷ planned) [] = Unit {0}
-StopsShort (plan ∷ planned) (call ∷ []) = (call ≡ failed_on plan) ⊎ ((call ≡ plan) × StopsShort planned [])
-StopsShort (plan ∷ planned) (call ∷ next ∷ calls) = (call ≡ plan) × StopsShort planned (next ∷ calls)
+StopsShort planned calls = StopsShortBy failed_on planned calls

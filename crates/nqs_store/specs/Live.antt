@@ -1,5 +1,5 @@
 -- The extents that a host has.
-use Rattle.std.specs.Prelude.{ℕ, List, ◌++◌, map, take, drop}
+use Rattle.std.specs.Prelude.{List, ◌++◌, map}
 use Rattle.nqs_base.specs.declared.extent.Extent.{Extent}
 use Rattle.nqs_types.specs.declared.request.Row.{Row}
 use Rattle.nqs_types.specs.declared.request.Promise.{Promise}
@@ -30,7 +30,3 @@ output_parts host = map stage_part host.stages ++ map file_part host.files
 -- those of rows, promises, stages and files, in this order
 abbrev pub live : Host → List Extent
 live host = map row_part host.rows ++ (map promise_part host.promises ++ output_parts host)
-
--- the bytes of a spool at an extent
-abbrev pub bytes_at : List ℕ → Extent → List ℕ
-bytes_at spool extent = take extent.length (drop extent.place spool)

@@ -18,7 +18,7 @@ use Rattle.nqs_spool.specs.declared.live.LiveExtents.{LiveExtents}
 use Rattle.nqs_spool.specs.declared.spool.Spool.{Spool}
 use Rattle.nqs_store.specs.Faults.{IsReadFault, IsBytesFault, IsExtentFault}
 use Rattle.nqs_store.specs.Live.{live}
-use Rattle.nqs_store.specs.Opens.{AreRead}
+use Rattle.nqs_store.specs.Images.{AreRead}
 use Rattle.nqs_store.specs.Reads.{OnlyReadsOne, OneFailedToRead}
 use Rattle.nqs_store.specs.Sound.{IsSoundHost}
 use Rattle.nqs_store.specs.Told.{Host, told_by}

@@ -1,5 +1,6 @@
 -- What a store tells.
 use Rattle.std.specs.Prelude.{◌≡◌, ℕ, Bool, false, true, not, List, length, Some}
+use Rattle.nqs_base.specs.Extents.{extent_bytes}
 use Rattle.nqs_state.specs.State.{Plain}
 use Rattle.nqs_base.specs.declared.extent.Extent.{Extent}
 use Rattle.nqs_types.specs.declared.world.Which.{Which}
@@ -14,7 +15,7 @@ use Rattle.nqs_rules.specs.Journals.{is_second, journal_on}
 use Rattle.nqs_spool.specs.Spooled as spool
 use Rattle.nqs_store.specs.Active.{Active}
 use Rattle.nqs_store.specs.Told.{Host, told_by}
-use Rattle.nqs_store.specs.Live.{live, bytes_at}
+use Rattle.nqs_store.specs.Live.{live}
 use Rattle.nqs_store.specs.Reads as reads
 use Rattle.nqs_store.specs.declared.store.Store.{Store}
 
@@ -64,7 +65,7 @@ module _ {D : Type 0} {g : disk.Ghosts D} where
 
   -- the bytes of an extent
   abbrev pub bytes_of : Store D g → Extent → List ℕ
-  bytes_of store extent = bytes_at (content (g.history (spool.disk_of store.spool))) extent
+  bytes_of store extent = extent_bytes (content (g.history (spool.disk_of store.spool))) extent
 
   -- a host with the bytes of its extents
   abbrev pub plain_of : Store D g → Host → Plain

@@ -1,5 +1,5 @@
 -- What the records of a journal tell.
-use Rattle.std.specs.Prelude.{◌≡◌, ◌⊎◌, ℕ, Bool, false, true, if◌then◌else◌, List, [], ◌∷◌, ◌++◌, length, Option, Some, None, Ok, Err, IsTrue, is_some}
+use Rattle.std.specs.Prelude.{◌≡◌, ◌⊎◌, ℕ, ◌+◌, Bool, false, true, if◌then◌else◌, List, [], ◌∷◌, ◌++◌, length, Option, Some, None, Ok, Err, IsTrue, is_some}
 use Rattle.nqs_state.specs.State.{State}
 use Rattle.nqs_base.specs.declared.extent.Extent.{Extent}
 use Rattle.nqs_types.specs.declared.change.Change.{Change}
@@ -66,21 +66,21 @@ pub record IsBadRecord (payloads : List (List ℕ)) (place : ℕ) : Type 0 where
 abbrev pub IsUntold : List (List ℕ) → ℕ → Type 0
 IsUntold payloads place = ((payloads ≡ []) × (place ≡ 16)) ⊎ IsBadRecord payloads place
 
--- The first record that is no change or doesn't fit what a host and those before it tell. Its gate
--- stands at the place behind a front.
-pub record IsBadRecordBehind (front : List ℕ) (host : Host) (payloads : List (List ℕ)) (place : ℕ) : Type 0 where
+-- The first record that is no change or doesn't fit what a host and those before it tell. Of the
+-- first of them the gate stands at the place, and of this one at the other.
+pub record IsBadFrom (host : Host) (place : ℕ) (payloads : List (List ℕ)) (at : ℕ) : Type 0 where
   pub before : List (List ℕ)
   pub payload : List ℕ
   pub later : List (List ℕ)
   pub is : payloads ≡ before ++ payload ∷ later
   pub so_far : IsTrue (is_some (told_from (Some host) before))
   pub bad : record_taken payload (told_from (Some host) before) ≡ None
-  pub at : place ≡ length (front ++ records before)
+  pub stands : at ≡ place + length (records before)
 
 -- why a snapshot and the payloads behind it tell no host: it is no spelling of one, or a record is
 -- bad
 abbrev pub IsUntoldBehind : Read Host → List ℕ → List (List ℕ) → ℕ → Type 0
-IsUntoldBehind (Ok host) snapshot payloads place = IsBadRecordBehind (snapshot_front snapshot) host payloads place
+IsUntoldBehind (Ok host) snapshot payloads place = IsBadFrom host (length (snapshot_front snapshot)) payloads place
 IsUntoldBehind (Err fault) snapshot payloads place = place ≡ 24
 
 -- why a journal of either form tells no host

@@ -1,16 +1,10 @@
 use Rattle.std.proofs.Common.{◌∙◌, Err, inl, inr, sym, ap, subst}
 use Rattle.nqs_types.specs.declared.world.Which.TheVariants.{Root, First, Second, Spool}
-use Rattle.nqs_store.specs.declared.fault.StoreFault.{StoreFault}
-use Rattle.nqs_store.specs.declared.fault.StoreFault.TheVariants as store
+use Rattle.nqs_store.specs.Faults.{IsDisk}
 use Rattle.nqs_outside.proofs.Roses.{rose_since}
 use Rattle.nqs_cli.specs.Formats.{Formats}
 use Rattle.nqs_cli.specs.Parts.{disks_told}
 use Rattle.nqs_cli.proofs.format.format_empty.Goals as goal
-
-abbrev IsDisk : StoreFault → Type 0
-IsDisk (store.Disk which) = Unit {0}
-IsDisk (store.Memory memory) = ⊥
-IsDisk store.Stopped = ⊥
 
 pub returns-in-Err : goal.returns-in-Err
 returns-in-Err g c =

@@ -24,6 +24,12 @@ carried_stands-requires-clause-host c =
     ∷ is_site_host a.carried.id.host s ∷ is_unknown a.carried.id s ∷ not (offer_full a.peer s) ∷ not (arrivals_used s) ∷ []) (rw a.is at c.requires.fits) in
     host_below s a.carried.id.host c.requires.order.site k.1.1.1.0
 
+pub returns-in-Submitted : goal.returns-in-Submitted
+returns-in-Submitted c =
+    let a = c.in-Submitted in
+    let x = rw a.is at c.requires.extents in
+    rw a.is (c.name_stands.ensures, c.job_stands.ensures (rw a.is at c.requires.sane), x.0)
+
 pub returns-in-Deleted : goal.returns-in-Deleted
 returns-in-Deleted c =
     let a = c.in-Deleted in

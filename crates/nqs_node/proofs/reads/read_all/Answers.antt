@@ -3,12 +3,12 @@ use Rattle.std.specs.List.{list_all}
 use Rattle.std.proofs.lemmas.Bool.{leb-true, le-leb}
 use Rattle.std.proofs.lemmas.List.{at_drop_more, at_drop_all}
 use Rattle.std.proofs.lemmas.Result.{err_from_is_err_and}
+use Rattle.nqs_base.specs.Extents.{extent_bytes}
 use Rattle.nqs_types.specs.declared.world.Which.TheVariants.{Spool}
 use Rattle.nqs_types.specs.declared.event.PlanRead.{PlanRead}
 use Rattle.nqs_outside.specs.History.{History, content}
 use Rattle.nqs_rules.specs.Edits.{change_at}
 use Rattle.nqs_rules.specs.Stepped.{with_bytes}
-use Rattle.nqs_store.specs.Live.{bytes_at}
 use Rattle.nqs_store.specs.Stores.{bytes_of}
 use Rattle.nqs_node.specs.Reading.{read_into, IsLiveRead, IsShortRead, sends_short, AreShort}
 use Rattle.nqs_node.proofs.Carrying.{read_short}
@@ -65,7 +65,7 @@ loop-read-preserved g c =
     record {
       filled = λ yes host told all.
           let read = c.in_ok-read_one.ensures.fills.filled yes host (v.tells yes host told) (all_at (IsLiveRead host) reads i none all c.loop-read-test.true) in
-          let bytes = ap (λ (h : History). bytes_at (content h) x.extent) (v.reads.same yes Spool) in
+          let bytes = ap (λ (h : History). extent_bytes (content h) x.extent) (v.reads.same yes Spool) in
           ap (read_into f (drop (i + 1) reads)) (read ∙ ap (λ b. change_at x.output (with_bytes b) outputs) bytes)
           ∙ sym (at_drop_more (λ rs. read_into f rs outputs) reads i none c.loop-read-test.true) ∙ v.filled yes host told all;
       short = λ few was.

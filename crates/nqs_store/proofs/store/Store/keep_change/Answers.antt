@@ -1,5 +1,6 @@
 use Rattle.std.proofs.Common.{rules, ◌≡◌, ◌∙◌, IsTrue, refl, sym, ap, subst, map, length}
 use Rattle.std.proofs.lemmas.List.{length-map}
+use Rattle.nqs_base.specs.Extents.{extent_bytes}
 use Rattle.nqs_state.specs.State.{content}
 use Rattle.nqs_types.specs.declared.world.Which.TheVariants.{Spool}
 use Rattle.nqs_outside.specs.History.{content as content_of}
@@ -9,7 +10,7 @@ use Rattle.nqs_rules.specs.Applied.{applied}
 use Rattle.nqs_rules.specs.Filled.{filled}
 use Rattle.nqs_rules.specs.Plain.{map_state}
 use Rattle.nqs_rules.specs.Stepped.{map_change, no_extent}
-use Rattle.nqs_store.specs.Live.{live, bytes_at}
+use Rattle.nqs_store.specs.Live.{live}
 use Rattle.nqs_store.specs.Puts.{place_of}
 use Rattle.nqs_store.specs.Putting.{ArePutFor}
 use Rattle.nqs_store.specs.Stores.{Tells, plain_of, history_of}
@@ -127,11 +128,11 @@ returns-in-Ok-append_to-clause-keeps g c =
       stands = c.in-Ok.ensures.done.stands;
       shape = shape_of g k;
       filled = λ told tells.
-          subst (λ d. map_change (bytes_at (content_of (g.D.Disk.history d))) c.put_bytes.new.change ≡ filled c.args.change.now c.args.puts.now)
+          subst (λ d. map_change (extent_bytes (content_of (g.D.Disk.history d))) c.put_bytes.new.change ≡ filled c.args.change.now c.args.puts.now)
           (sym freed.same)
           (filled_now told o host tells (put_of g k told tells));
       kept = λ told tells.
-          subst (λ d. map_state (bytes_at (content_of (g.D.Disk.history d))) host ≡ plain_of o host) (sym freed.same)
+          subst (λ d. map_state (extent_bytes (content_of (g.D.Disk.history d))) host ≡ plain_of o host) (sym freed.same)
           (plain_kept told o host tells (content_of (spool.history_of c.put_bytes.new.spool)) (put_of g k told tells).still);
       told = λ told tells.
           let p = put_of g k told tells in
@@ -142,7 +143,7 @@ returns-in-Ok-append_to-clause-keeps g c =
       active = search rules;
       plain = λ told tells.
           let later = applied (filled c.args.change.now c.args.puts.now) (plain_of o host) in
-          subst (λ d. map_state (bytes_at (content_of (g.D.Disk.history d))) (applied c.put_bytes.new.change host) ≡ later) (sym freed.same)
+          subst (λ d. map_state (extent_bytes (content_of (g.D.Disk.history d))) (applied c.put_bytes.new.change host) ≡ later) (sym freed.same)
           (plain_now told o host tells (put_of g k told tells));
     }
 

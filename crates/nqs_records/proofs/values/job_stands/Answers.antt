@@ -2,7 +2,7 @@ use Rattle.std.proofs.Common.{nat_le, [], ◌∷◌}
 use Rattle.nqs_base.specs.Path.{is_path}
 use Rattle.nqs_rules.proofs.Chains.{each}
 use Rattle.nqs_rules.proofs.PathStands.{path_stands}
-use Rattle.nqs_snapshot.proofs.typed.job_stands.Goals as goal
+use Rattle.nqs_records.proofs.values.job_stands.Goals as goal
 
 pub returns : goal.returns
 returns c = λ sane.
