@@ -37,6 +37,13 @@ static ENDED: [u8; 24] = [
     1, 12, 0, 0, 0, 9, 0, 0, 0, 7, 0, 0, 1, 3, 0, 0, 0, 2, b'4', b'2', 0, 0, 0, 0,
 ];
 
+fn alpha() -> Name {
+    match Name::read(b"alpha") {
+        Ok(name) => name,
+        Err(_) => unreachable!(),
+    }
+}
+
 fn wire(alloc: Global, datagrams: &[&[u8]]) -> Result<MemWire, Memory> {
     let mut script = Items::new(alloc);
     for datagram in datagrams {
@@ -71,10 +78,7 @@ fn ends(
     let words = words(alloc, line)?;
     let mut out = MemSink::new(alloc, 100, Vec::new(alloc));
     let mut input = ListSource::new(input);
-    let Ok(alpha) = Name::read(b"alpha") else {
-        return Ok(false);
-    };
-    let status = client(alloc, &[alpha], &words, 9, wire, &mut input, &mut out);
+    let status = client(alloc, &[alpha()], &words, 9, wire, &mut input, &mut out);
     Ok(status == end.0 && out.taken() == end.1)
 }
 
@@ -130,26 +134,27 @@ fn waits_ten_times(rt: HostRuntime) -> Result<(), Fail> {
     Ok(())
 }
 
+// Whether a submission of this script ends so, and how many datagrams went out and came.
+fn submits(
+    alloc: Global,
+    script: &[u8],
+    end: (NqsStatus, &[u8]),
+) -> Result<(bool, [usize; 2]), Memory> {
+    let mut wire = wire(alloc, &[&ANSWER])?;
+    let ended = ends(alloc, &["qsub", "alpha", "ann"], script, &mut wire, end)?;
+    let counts = [wire.sent().len(), wire.received().len()];
+    drop(wire);
+    Ok((ended, counts))
+}
+
 #[test]
 fn refuses_a_long_script(rt: HostRuntime) -> Result<(), Fail> {
     let alloc = rt.alloc();
-    let mut full = wire(alloc, &[&ANSWER])?;
-    let mut long = wire(alloc, &[&ANSWER])?;
-    let line = ["qsub", "alpha", "ann"];
     let script = [35u8; 32_769];
     let text = b"Bad word 0: script too long\n";
-    let taken = ends(
-        alloc,
-        &line,
-        &script[..32_768],
-        &mut full,
-        (NqsStatus::Done, b"ok\n"),
-    )?;
-    let refused = ends(alloc, &line, &script, &mut long, (NqsStatus::Refused, text))?;
-    let counts = [full.sent().len(), long.sent().len(), long.received().len()];
-    drop(full);
-    drop(long);
-    assert_eq!(rt; (taken, refused, counts), (true, true, [1, 0, 0]));
+    let taken = submits(alloc, &script[..32_768], (NqsStatus::Done, b"ok\n"))?;
+    let refused = submits(alloc, &script, (NqsStatus::Refused, text))?;
+    assert_eq!(rt; [taken, refused], [(true, [1, 1]), (true, [0, 0])]);
     Ok(())
 }
 
@@ -190,11 +195,8 @@ fn runner(alloc: Global) -> Result<MemRunner, Memory> {
     Ok(MemRunner::new(alloc, Items::of(alloc, end)?, Vec::new(alloc)))
 }
 
-fn tell(alloc: Global, runner: &mut MemRunner, wire: &mut MemWire) -> Option<ShepherdEnd> {
-    let Ok(alpha) = Name::read(b"alpha") else {
-        return None;
-    };
-    Some(shepherd(alloc, &[alpha], HostId(0), JOB, 1, 9, runner, wire))
+fn tell(alloc: Global, runner: &mut MemRunner, wire: &mut MemWire) -> ShepherdEnd {
+    shepherd(alloc, &[alpha()], HostId(0), JOB, 1, 9, runner, wire)
 }
 
 #[test]
@@ -202,7 +204,7 @@ fn tells_the_end(rt: HostRuntime) -> Result<(), Fail> {
     let alloc = rt.alloc();
     let mut wire = wire(alloc, &[&OTHER_ACK, &ACK])?;
     let mut runner = runner(alloc)?;
-    let ended = tell(alloc, &mut runner, &mut wire) == Some(ShepherdEnd::Told);
+    let ended = tell(alloc, &mut runner, &mut wire) == ShepherdEnd::Told;
     let told = is_sent(&wire, 2, &ENDED) && runner.kept().len() == 1;
     drop(wire);
     drop(runner);
@@ -215,7 +217,7 @@ fn tells_ten_times(rt: HostRuntime) -> Result<(), Fail> {
     let alloc = rt.alloc();
     let mut wire = wire(alloc, &[])?;
     let mut runner = runner(alloc)?;
-    let ended = tell(alloc, &mut runner, &mut wire) == Some(ShepherdEnd::NoAnswer);
+    let ended = tell(alloc, &mut runner, &mut wire) == ShepherdEnd::NoAnswer;
     let told = is_sent(&wire, 10, &ENDED);
     drop(wire);
     drop(runner);

@@ -301,15 +301,15 @@ impl Machine for MemMachine {
     // It answers one end: the status 0 with no output.
     fn runner(&mut self, _dir: &str, _host: HostId) -> Result<MemRunner, MachineEnd> {
         self.ask()?;
-        let mut ends = Items::new(self.alloc);
         let end = RunEnd {
             status: 0,
             out: Bytes::from_vec(Vec::new(self.alloc)),
             err: Bytes::from_vec(Vec::new(self.alloc)),
         };
-        if let Err(refused) = ends.push(end) {
-            return Err(MachineEnd::Memory(refused.into()));
-        }
+        let ends = match Items::of(self.alloc, end) {
+            Ok(ends) => ends,
+            Err(refused) => return Err(MachineEnd::Memory(refused.into())),
+        };
         self.lend();
         Ok(MemRunner::new(self.alloc, ends, Vec::new(self.alloc)))
     }

@@ -77,33 +77,41 @@ fn order(name: Name) -> LaunchOrder {
     }
 }
 
-#[test]
-fn keeps_jobs_prints_and_files(rt: HostRuntime) -> Result<(), Fail> {
-    let alloc = rt.alloc();
-    let Ok(name) = Name::read(b"laser") else {
-        return Ok(());
-    };
+fn launches(alloc: Global, name: Name) -> Result<bool, Memory> {
     let mut launcher = MemLauncher::new(alloc, Vec::from_slice(alloc, &[2])?);
-    let mut printer = MemPrinter::new(alloc, Vec::from_slice(alloc, &[1])?);
-    let mut outlet = MemOutlet::new(alloc, Vec::new(alloc));
-    let launcher_is_right = launcher.launch(&order(name), b"date").is_ok()
+    let is_right = launcher.launch(&order(name), b"date").is_ok()
         && launcher.kill(ID, 1).is_err()
         && launcher.kept().len() == 2
         && !launcher.is_starved();
-    let printer_is_right = printer.print(&name, &order(name), b"text").is_err()
+    drop(launcher);
+    Ok(is_right)
+}
+
+fn prints(alloc: Global, name: Name) -> Result<bool, Memory> {
+    let mut printer = MemPrinter::new(alloc, Vec::from_slice(alloc, &[1])?);
+    let is_right = printer.print(&name, &order(name), b"text").is_err()
         && printer.print(&name, &order(name), b"text").is_ok()
         && printer.kept().len() == 2
         && !printer.is_starved();
-    let outlet_is_right = outlet.write_file(b"a/b", b"text").is_ok()
+    drop(printer);
+    Ok(is_right)
+}
+
+fn writes(alloc: Global) -> bool {
+    let mut outlet = MemOutlet::new(alloc, Vec::new(alloc));
+    let is_right = outlet.write_file(b"a/b", b"text").is_ok()
         && outlet.kept().len() == 1
         && !outlet.is_starved();
-    drop(launcher);
-    drop(printer);
     drop(outlet);
-    assert_eq!(rt;
-        [launcher_is_right, printer_is_right, outlet_is_right],
-        [true; 3]
-    );
+    is_right
+}
+
+#[test]
+fn keeps_jobs_prints_and_files(rt: HostRuntime) -> Result<(), Fail> {
+    let alloc = rt.alloc();
+    let name = Name::read(b"laser")?;
+    let are_right = [launches(alloc, name)?, prints(alloc, name)?, writes(alloc)];
+    assert_eq!(rt; are_right, [true; 3]);
     Ok(())
 }
 

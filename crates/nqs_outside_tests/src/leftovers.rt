@@ -30,14 +30,25 @@ static ENVIRONMENTS: [(&[u8], bool, bool); 15] = [
     (b"", false, false),
 ];
 
+// The first environment for which that is told otherwise.
+fn wrong_entry(job: &Mark, jobs: &Mark) -> Option<usize> {
+    for (place, row) in ENVIRONMENTS.iter().enumerate() {
+        let found = [is_marked(row.0, job), is_marked(row.0, jobs)];
+        if found != [row.1, row.2] {
+            return Some(place);
+        }
+    }
+    None
+}
+
 #[test]
 fn an_entry_is_the_mark(rt: HostRuntime) -> Result<(), Fail> {
     let job = Mark::Is(String::from_str(rt.alloc(), "NQS_JOB=/s/a/jobs/1.a.1")?);
     let jobs = Mark::Begins(String::from_str(rt.alloc(), "NQS_JOB=/s/a/jobs/")?);
-    for row in &ENVIRONMENTS {
-        assert_eq!(rt; is_marked(row.0, &job), row.1);
-        assert_eq!(rt; is_marked(row.0, &jobs), row.2);
-    }
+    let wrong = wrong_entry(&job, &jobs);
+    drop(job);
+    drop(jobs);
+    assert_eq!(rt; wrong, None);
     Ok(())
 }
 
@@ -65,19 +76,26 @@ fn start_sleepers(rt: &HostRuntime, jobs: &str) -> io::Result<Vec<Child>> {
     Ok(sleepers)
 }
 
-// For each a letter: is it killed, or does it live?
-fn fates(rt: &HostRuntime, sleepers: &mut Vec<Child>) -> io::Result<String> {
+// Is it killed, or does it live?
+fn fate(child: &mut Child) -> io::Result<u8> {
+    Ok(match child.try_wait()? {
+        Some(status) if status.signal() == Some(9) => b'k',
+        Some(_) => b'?',
+        None => b'l',
+    })
+}
+
+// Whether they have these fates, in order.
+fn have_fates(rt: &HostRuntime, sleepers: &mut Vec<Child>, letters: &[u8; 6]) -> io::Result<bool> {
     thread::sleep(rt, Duration::from_millis(100));
-    let mut letters = String::new(rt.alloc());
-    for child in sleepers.iter_mut() {
-        let letter = match child.try_wait()? {
-            Some(status) if status.signal() == Some(9) => 'k',
-            Some(_) => '?',
-            None => 'l',
-        };
-        letters.push(letter)?;
+    let mut found = [b' '; 6];
+    for (place, child) in sleepers.iter_mut().enumerate() {
+        let letter = fate(child)?;
+        if place < 6 {
+            found[place] = letter;
+        }
     }
-    Ok(letters)
+    Ok(found == *letters)
 }
 
 // A job ends, and then a daemon starts.
@@ -87,11 +105,11 @@ fn end_some(
     site: &[SiteHost],
     jobs: &str,
     sleepers: &mut Vec<Child>,
-) -> io::Result<(String, String)> {
+) -> io::Result<[bool; 2]> {
     end_job(rt, &format!(in rt.alloc(); "{jobs}/1.alpha.1")?)?;
-    let first = fates(rt, sleepers)?;
+    let first = have_fates(rt, sleepers, b"klllll")?;
     drop(ShepherdLauncher::open(*rt, "/bin/true", dir, site, HOST)?);
-    Ok((first, fates(rt, sleepers)?))
+    Ok([first, have_fates(rt, sleepers, b"kkllll")?])
 }
 
 fn end_all(sleepers: &mut Vec<Child>) -> io::Result<()> {
@@ -102,19 +120,42 @@ fn end_all(sleepers: &mut Vec<Child>) -> io::Result<()> {
     Ok(())
 }
 
+// The folder of the jobs of alpha, whose own folder is made.
+fn jobs_of_alpha(rt: &HostRuntime, dir: &str) -> io::Result<String> {
+    fs::create_dir(rt, &format!(in rt.alloc(); "{dir}/alpha")?)?;
+    let here = env::current_dir(rt)?;
+    Ok(format!(in rt.alloc(); "{}/{dir}/alpha/jobs", here.as_str())?)
+}
+
+fn start_and_end(
+    rt: &HostRuntime,
+    dir: &str,
+    site: &[SiteHost],
+    jobs: &str,
+) -> io::Result<[bool; 2]> {
+    let mut sleepers = start_sleepers(rt, jobs)?;
+    let ended = end_some(rt, dir, site, jobs, &mut sleepers);
+    end_all(&mut sleepers)?;
+    ended
+}
+
+fn ends_in(rt: &HostRuntime, dir: &str, site: &[SiteHost]) -> io::Result<[bool; 2]> {
+    let jobs = jobs_of_alpha(rt, dir)?;
+    start_and_end(rt, dir, site, &jobs)
+}
+
+fn ends_in_folder(rt: &HostRuntime, site: &[SiteHost]) -> io::Result<[bool; 2]> {
+    let dir = fresh_folder(rt, "left")?;
+    let ended = ends_in(rt, &dir, site);
+    fs::remove_dir_all(rt, &dir)?;
+    ended
+}
+
 #[test]
 fn processes_of_jobs_end(rt: HostRuntime) -> Result<(), Fail> {
     let site = site_of_alpha(&rt)?;
-    let dir = fresh_folder(&rt, "left")?;
-    fs::create_dir(&rt, &format!(in rt.alloc(); "{dir}/alpha")?)?;
-    let here = env::current_dir(&rt)?;
-    let jobs = format!(in rt.alloc(); "{}/{dir}/alpha/jobs", here.as_str())?;
-    let mut sleepers = start_sleepers(&rt, &jobs)?;
-    let ended = end_some(&rt, &dir, &site, &jobs, &mut sleepers);
-    end_all(&mut sleepers)?;
-    fs::remove_dir_all(&rt, &dir)?;
-    let (first, second) = ended?;
-    assert_eq!(rt; first.as_str(), "klllll");
-    assert_eq!(rt; second.as_str(), "kkllll");
+    let ended = ends_in_folder(&rt, &site);
+    drop(site);
+    assert_eq!(rt; ended?, [true; 2]);
     Ok(())
 }

@@ -102,17 +102,19 @@ fn locks(rt: &HostRuntime, folder: &str) -> io::Result<[bool; 2]> {
     Ok([is_refused, HostLock::take(rt, folder).is_ok()])
 }
 
+fn try_disk(rt: &HostRuntime, folder: &str) -> io::Result<([bool; 4], [bool; 4], [bool; 2])> {
+    let written = write_disk(rt, folder)?;
+    let read = read_disk(rt, folder)?;
+    Ok((written, read, locks(rt, folder)?))
+}
+
 #[test]
 fn a_disk_keeps_its_bytes(rt: HostRuntime) -> Result<(), Fail> {
     let folder = fresh_folder(&rt, "disk")?;
-    let written = write_disk(&rt, &folder);
-    let read = read_disk(&rt, &folder);
-    let locked = locks(&rt, &folder);
+    let tried = try_disk(&rt, &folder);
     fs::remove_dir_all(&rt, &folder)?;
     drop(folder);
-    assert_eq!(rt; written?, [true; 4]);
-    assert_eq!(rt; read?, [true; 4]);
-    assert_eq!(rt; locked?, [true; 2]);
+    assert_eq!(rt; tried?, ([true; 4], [true; 4], [true; 2]));
     Ok(())
 }
 
@@ -151,18 +153,22 @@ fn print_page(rt: &HostRuntime, folder: &str) -> Result<bool, Fail> {
     Ok(printer.print(&device, &order, b"page").is_ok())
 }
 
+fn put_and_print(rt: &HostRuntime, folder: &str) -> Result<([bool; 7], [bool; 4]), Fail> {
+    let put = put_outputs(rt, folder)?;
+    let is_printed = print_page(rt, folder)?;
+    let has_output = has_text(rt, folder, "output/a/b/c", "42\n")?;
+    let is_short = has_text(rt, folder, "output/short", "42\n")?;
+    let has_page = has_text(rt, folder, "printed/laser/2.alpha.1", "page")?;
+    Ok((put, [is_printed, has_output, is_short, has_page]))
+}
+
 #[test]
 fn files_come_whole(rt: HostRuntime) -> Result<(), Fail> {
     let folder = fresh_folder(&rt, "files")?;
-    let put = put_outputs(&rt, &folder);
-    let is_printed = print_page(&rt, &folder)?;
-    let has_output = has_text(&rt, &folder, "output/a/b/c", "42\n");
-    let is_short = has_text(&rt, &folder, "output/short", "42\n");
-    let has_page = has_text(&rt, &folder, "printed/laser/2.alpha.1", "page");
+    let found = put_and_print(&rt, &folder)?;
     fs::remove_dir_all(&rt, &folder)?;
     drop(folder);
-    assert_eq!(rt; put?, [true; 7]);
-    assert_eq!(rt; [is_printed, has_output?, is_short?, has_page?], [true; 4]);
+    assert_eq!(rt; found, ([true; 7], [true; 4]));
     Ok(())
 }
 
@@ -185,28 +191,46 @@ static MODES: [(&str, u32); 9] = [
     ("jobs/3.alpha.1/script", 0o600),
 ];
 
-fn make_all(rt: &HostRuntime, dir: &str, site: &[SiteHost], order: &LaunchOrder) -> io::Result<()> {
-    let folder = make_host_folder(rt, dir, site, HOST)?;
-    drop(HostLock::take(rt, &folder)?);
-    drop(open_disks(rt, &folder)?);
-    let mut outlet = FileOutlet::open(*rt, &folder)?;
+fn make_disks(rt: &HostRuntime, folder: &str) -> io::Result<()> {
+    drop(HostLock::take(rt, folder)?);
+    drop(open_disks(rt, folder)?);
+    let mut outlet = FileOutlet::open(*rt, folder)?;
     let _ = outlet.write_file(b"a/b", b"");
+    Ok(())
+}
+
+fn make_job(rt: &HostRuntime, dir: &str, site: &[SiteHost], order: &LaunchOrder) -> io::Result<()> {
     let mut launcher = ShepherdLauncher::open(*rt, "/bin/true", dir, site, HOST)?;
     let _ = launcher.launch(order, b"");
     Ok(())
 }
 
+// The first path whose mode is another.
+fn wrong_mode(rt: &HostRuntime, folder: &str) -> io::Result<Option<usize>> {
+    for (place, row) in MODES.iter().enumerate() {
+        if mode_at(rt, folder, row.0)? != row.1 {
+            return Ok(Some(place));
+        }
+    }
+    Ok(None)
+}
+
+fn wrong_mode_in(rt: &HostRuntime, dir: &str) -> Result<Option<usize>, Fail> {
+    let order = order_of(3, None, None)?;
+    let site = site_of_alpha(rt)?;
+    let folder = make_host_folder(rt, dir, &site, HOST)?;
+    make_disks(rt, &folder)?;
+    make_job(rt, dir, &site, &order)?;
+    Ok(wrong_mode(rt, &folder)?)
+}
+
 #[test]
 fn files_are_private(rt: HostRuntime) -> Result<(), Fail> {
-    let site = site_of_alpha(&rt)?;
-    let order = order_of(3, None, None)?;
     let dir = fresh_folder(&rt, "modes")?;
-    make_all(&rt, &dir, &site, &order)?;
-    let folder = format!(in rt.alloc(); "{dir}/alpha")?;
-    for row in &MODES {
-        assert_eq!(rt; mode_at(&rt, &folder, row.0)?, row.1);
-    }
+    let wrong = wrong_mode_in(&rt, &dir)?;
     fs::remove_dir_all(&rt, &dir)?;
+    drop(dir);
+    assert_eq!(rt; wrong, None);
     Ok(())
 }
 
