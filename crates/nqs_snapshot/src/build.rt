@@ -46,69 +46,75 @@ fn blank(alloc: Global) -> HostState
     }
 }
 
-// Whether no two queues, complexes or devices have one name.
-fn fill_site(state: &mut HostState, part: SitePart) -> Result<bool, AllocError>
-    requires queues { state.old.queues.items ≡ [] }
-    requires complexes { state.old.complexes.items ≡ [] }
-    requires devices { state.old.devices.items ≡ [] }
-    ensures distinct { IfOk result (λ filled. filled ≡ are_names_distinct part) }
-    ensures filled { IfOk result (λ filled. filled ≡ true → content state.new ≡ with_site part (content state.old)) }
-{
-    let SitePart {
-        me,
-        site,
-        queues,
-        complexes,
-        devices,
-    } = part;
-    state.me = me;
-    state.site = site;
-    let queues_differ = fill(&mut state.queues, queues)?;
-    let complexes_differ = fill(&mut state.complexes, complexes)?;
-    let devices_differ = fill(&mut state.devices, devices)?;
-    Ok(queues_differ && complexes_differ && devices_differ)
+impl SitePart {
+    // Whether no two queues, complexes or devices have one name.
+    fn fill(self, state: &mut HostState) -> Result<bool, AllocError>
+        requires queues { state.old.queues.items ≡ [] }
+        requires complexes { state.old.complexes.items ≡ [] }
+        requires devices { state.old.devices.items ≡ [] }
+        ensures distinct { IfOk result (λ filled. filled ≡ are_names_distinct self) }
+        ensures filled { IfOk result (λ filled. filled ≡ true → content state.new ≡ with_site self (content state.old)) }
+    {
+        let SitePart {
+            me,
+            site,
+            queues,
+            complexes,
+            devices,
+        } = self;
+        state.me = me;
+        state.site = site;
+        let queues_differ = fill(&mut state.queues, queues)?;
+        let complexes_differ = fill(&mut state.complexes, complexes)?;
+        let devices_differ = fill(&mut state.devices, devices)?;
+        Ok(queues_differ && complexes_differ && devices_differ)
+    }
 }
 
-// Whether no two requests are one, nor two handovers or promises.
-fn fill_requests(state: &mut HostState, part: RequestPart) -> Result<bool, AllocError>
-    requires hands { state.old.hands.items ≡ [] }
-    requires promises { state.old.promises.items ≡ [] }
-    ensures distinct { IfOk result (λ filled. filled ≡ are_requests_distinct part) }
-    ensures filled { IfOk result (λ filled. filled ≡ true → content state.new ≡ with_requests part (content state.old)) }
-{
-    let RequestPart {
-        rows,
-        hands,
-        promises,
-    } = part;
-    let mut table = Table::new(state.rows.allocator());
-    let rows_differ = fill(&mut table, rows)?;
-    state.rows = Rows::from_table(table);
-    let hands_differ = fill(&mut state.hands, hands)?;
-    let promises_differ = fill(&mut state.promises, promises)?;
-    Ok(rows_differ && hands_differ && promises_differ)
+impl RequestPart {
+    // Whether no two requests are one, nor two handovers or promises.
+    fn fill(self, state: &mut HostState) -> Result<bool, AllocError>
+        requires hands { state.old.hands.items ≡ [] }
+        requires promises { state.old.promises.items ≡ [] }
+        ensures distinct { IfOk result (λ filled. filled ≡ are_requests_distinct self) }
+        ensures filled { IfOk result (λ filled. filled ≡ true → content state.new ≡ with_requests self (content state.old)) }
+    {
+        let RequestPart {
+            rows,
+            hands,
+            promises,
+        } = self;
+        let mut table = Table::new(state.rows.allocator());
+        let rows_differ = fill(&mut table, rows)?;
+        state.rows = Rows::from_table(table);
+        let hands_differ = fill(&mut state.hands, hands)?;
+        let promises_differ = fill(&mut state.promises, promises)?;
+        Ok(rows_differ && hands_differ && promises_differ)
+    }
 }
 
-// Whether no two stages or files are one.
-fn fill_dealings(state: &mut HostState, part: DealingPart) -> Result<bool, AllocError>
-    requires stages { state.old.stages.items ≡ [] }
-    requires files { state.old.files.items ≡ [] }
-    ensures distinct { IfOk result (λ filled. filled ≡ are_outputs_distinct part) }
-    ensures filled { IfOk result (λ filled. filled ≡ true → content state.new ≡ with_dealings part (content state.old)) }
-{
-    let DealingPart {
-        peers,
-        stages,
-        files,
-        managers,
-        operators,
-    } = part;
-    state.peers = peers;
-    state.managers = managers;
-    state.operators = operators;
-    let stages_differ = fill(&mut state.stages, stages)?;
-    let files_differ = fill(&mut state.files, files)?;
-    Ok(stages_differ && files_differ)
+impl DealingPart {
+    // Whether no two stages or files are one.
+    fn fill(self, state: &mut HostState) -> Result<bool, AllocError>
+        requires stages { state.old.stages.items ≡ [] }
+        requires files { state.old.files.items ≡ [] }
+        ensures distinct { IfOk result (λ filled. filled ≡ are_outputs_distinct self) }
+        ensures filled { IfOk result (λ filled. filled ≡ true → content state.new ≡ with_dealings self (content state.old)) }
+    {
+        let DealingPart {
+            peers,
+            stages,
+            files,
+            managers,
+            operators,
+        } = self;
+        state.peers = peers;
+        state.managers = managers;
+        state.operators = operators;
+        let stages_differ = fill(&mut state.stages, stages)?;
+        let files_differ = fill(&mut state.files, files)?;
+        Ok(stages_differ && files_differ)
+    }
 }
 
 fn set_counters(state: &mut HostState, part: CounterPart)
@@ -123,28 +129,30 @@ fn set_counters(state: &mut HostState, part: CounterPart)
     state.file_next = part.file_next;
 }
 
-/// The state of the parts, unless two of a table have one key.
-pub(crate) fn build(alloc: Global, parts: Parts) -> Result<Option<HostState>, AllocError>
-    ensures some { IfOk result (λ built. IfSome built (λ state. content state ≡ state_of parts)) }
-    ensures distinct { IfOk result (λ built. IfSome built (λ _. are_keys_distinct (state_of parts) ≡ true)) }
-    ensures none { IfOk result (λ built. IfNone built (are_keys_distinct (state_of parts) ≡ false)) }
-{
-    let Parts {
-        site,
-        requests,
-        dealings,
-        counters,
-    } = parts;
-    let mut state = blank(alloc);
-    set_counters(&mut state, counters);
-    if !fill_site(&mut state, site)? {
-        return Ok(None);
+impl Parts {
+    /// The state of the parts, unless two of a table have one key.
+    pub(crate) fn build(self, alloc: Global) -> Result<Option<HostState>, AllocError>
+        ensures some { IfOk result (λ built. IfSome built (λ state. content state ≡ state_of self)) }
+        ensures distinct { IfOk result (λ built. IfSome built (λ _. are_keys_distinct (state_of self) ≡ true)) }
+        ensures none { IfOk result (λ built. IfNone built (are_keys_distinct (state_of self) ≡ false)) }
+    {
+        let Parts {
+            site,
+            requests,
+            dealings,
+            counters,
+        } = self;
+        let mut state = blank(alloc);
+        set_counters(&mut state, counters);
+        if !site.fill(&mut state)? {
+            return Ok(None);
+        }
+        if !requests.fill(&mut state)? {
+            return Ok(None);
+        }
+        if !dealings.fill(&mut state)? {
+            return Ok(None);
+        }
+        Ok(Some(state))
     }
-    if !fill_requests(&mut state, requests)? {
-        return Ok(None);
-    }
-    if !fill_dealings(&mut state, dealings)? {
-        return Ok(None);
-    }
-    Ok(Some(state))
 }

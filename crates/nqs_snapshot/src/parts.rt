@@ -11,7 +11,6 @@ use nqs_types::{ComplexDef, DeviceDef, FileOut, Hand, HostId, Promise, QueueDef,
 use std::alloc::Global;
 
 /// Who the host is, and its queues, complexes and devices.
-#[derive(Drop)]
 pub(crate) struct SitePart {
     pub me: HostId,
     pub site: NameList,
@@ -20,22 +19,55 @@ pub(crate) struct SitePart {
     pub devices: Items<DeviceDef>,
 }
 
+// Written out, as for the other parts, so that a part is let go by a call.
+impl Drop for SitePart {
+    fn drop(self) {
+        let SitePart {
+            me: _,
+            site: _,
+            queues: _,
+            complexes: _,
+            devices: _,
+        } = self;
+    }
+}
+
 /// Its requests, handovers and promises.
-#[derive(Drop)]
 pub(crate) struct RequestPart {
     pub rows: Items<Row>,
     pub hands: Items<Hand>,
     pub promises: Items<Promise>,
 }
 
+impl Drop for RequestPart {
+    fn drop(self) {
+        let RequestPart {
+            rows: _,
+            hands: _,
+            promises: _,
+        } = self;
+    }
+}
+
 /// Its dealings with other hosts, its files, and who may change it.
-#[derive(Drop)]
 pub(crate) struct DealingPart {
     pub peers: PeerList,
     pub stages: Items<Stage>,
     pub files: Items<FileOut>,
     pub managers: NameList,
     pub operators: NameList,
+}
+
+impl Drop for DealingPart {
+    fn drop(self) {
+        let DealingPart {
+            peers: _,
+            stages: _,
+            files: _,
+            managers: _,
+            operators: _,
+        } = self;
+    }
 }
 
 /// Its parameters and counters.
@@ -51,12 +83,22 @@ pub(crate) struct CounterPart {
 }
 
 /// All parts of a state.
-#[derive(Drop)]
 pub(crate) struct Parts {
     pub site: SitePart,
     pub requests: RequestPart,
     pub dealings: DealingPart,
     pub counters: CounterPart,
+}
+
+impl Drop for Parts {
+    fn drop(self) {
+        let Parts {
+            site: _,
+            requests: _,
+            dealings: _,
+            counters: _,
+        } = self;
+    }
 }
 
 #[tactic(auto, unfolding(crate::specs::Reading::site_at))]

@@ -11,7 +11,6 @@ ghost use Rattle.nqs_rules.specs.InOrder.{IsInOrder, IsConsistent};
 ghost use Rattle.nqs_snapshot.specs.Sound.{HasShortParts};
 ghost use Rattle.nqs_snapshot.specs.Laws.{IsSpelledBy, SpellsNone, told_by};
 
-use crate::build::build;
 use crate::lists::InSnapshot;
 use crate::parts::Parts;
 use crate::sound::may_go_on;
@@ -33,7 +32,7 @@ fn sound_state(alloc: Global, parts: Parts) -> Result<HostState, RecordFault>
     requires { MayStand (state_of parts) }
     ensures { Answers (or_bad (state_of parts)) (told_by result) }
 {
-    let Some(state) = build(alloc, parts)? else {
+    let Some(state) = parts.build(alloc)? else {
         return Err(RecordFault::BadField(0));
     };
     if !may_go_on(alloc, &state)? {
