@@ -14,7 +14,6 @@
 //! what a read costs grows with the length of the bytes, and not with its square.
 #![tactic(auto)]
 
-mod build;
 mod consistent;
 mod differ;
 mod few;
@@ -30,6 +29,7 @@ mod put_queues;
 mod put_requests;
 mod read;
 mod read_dealings;
+mod read_parts;
 mod read_queues;
 mod read_requests;
 mod sound;

@@ -1,14 +1,19 @@
-//! The parts of a whole state, read at a place of bytes, with lists in place of tables.
+//! The parts of a state, with lists in place of tables, and the state that is built of them: each
+//! value stands in its table under its key.
 
-ghost use Rattle.nqs_records.specs.Reading.{Answers};
-ghost use Rattle.nqs_snapshot.specs.Reading.{site_at, requests_at, dealings_at, counters_at, parts_at};
+ghost use Rattle.std.specs.Prelude.{◌≡◌, true, false, [], IfOk, IfSome, IfNone};
+ghost use Rattle.nqs_state.specs.State.{content};
+ghost use Rattle.nqs_rules.specs.InOrder.{are_keys_distinct};
+ghost use Rattle.nqs_snapshot.specs.Reading.{state_of};
+ghost use Rattle.nqs_snapshot.specs.Blank.{IsBlank, are_names_distinct, are_requests_distinct, are_outputs_distinct, with_site, with_requests, with_dealings};
+ghost use Rattle.nqs_snapshot.specs.Blank.{with_counters};
 
-use crate::lists::{InSnapshot, read_list, read_many};
-use nqs_base::{Items, Name, NameList};
-use nqs_records::{Read, RecordFault, read_host, read_opt_name, read_u16, read_u32, read_u64};
-use nqs_state::PeerList;
+use crate::tables::fill;
+use nqs_base::{Items, ListOf, Name, NameList, Spare};
+use nqs_base_tables::Table;
+use nqs_state::{HostState, PeerList, Rows};
 use nqs_types::{ComplexDef, DeviceDef, FileOut, Hand, HostId, Promise, QueueDef, Row, Stage};
-use std::alloc::Global;
+use std::alloc::{AllocError, Global};
 
 /// Who the host is, and its queues, complexes and devices.
 pub(crate) struct SitePart {
@@ -101,97 +106,144 @@ impl Drop for Parts {
     }
 }
 
-#[tactic(auto, unfolding(crate::specs::Reading::site_at))]
-fn read_site(alloc: Global, bytes: &[u8], place: u64) -> Result<(SitePart, u64), RecordFault>
-    ensures { Answers (site_at bytes.now place) result }
+// A state whose tables are empty.
+fn blank(alloc: Global) -> HostState
+    ensures { IsBlank (content result) }
 {
-    let (me, place) = read_host(bytes, place)?;
-    let (site, place) = read_list(alloc, bytes, place)?;
-    let (queues, place) = read_many(alloc, bytes, place)?;
-    let (complexes, place) = read_many(alloc, bytes, place)?;
-    let (devices, place) = read_many(alloc, bytes, place)?;
-    let part = SitePart {
-        me,
-        site,
-        queues,
-        complexes,
-        devices,
-    };
-    Ok((part, place))
+    HostState {
+        me: HostId(0),
+        site: ListOf::new(alloc),
+        queues: Table::new(alloc),
+        complexes: Table::new(alloc),
+        devices: Table::new(alloc),
+        rows: Rows::new(alloc),
+        hands: Table::new(alloc),
+        promises: Table::new(alloc),
+        peers: ListOf::new(alloc),
+        stages: Table::new(alloc),
+        files: Table::new(alloc),
+        managers: ListOf::new(alloc),
+        operators: ListOf::new(alloc),
+        default_queue: None,
+        global_limit: 0,
+        patience: 0,
+        retry_wait: 0,
+        seq: 0,
+        arrivals: 0,
+        file_next: 0,
+        spare_names: Spare::new(alloc),
+        spare_dests: Spare::new(alloc),
+        spare_refused: Spare::new(alloc),
+    }
 }
 
-#[tactic(auto, unfolding(crate::specs::Reading::requests_at))]
-fn read_requests(alloc: Global, bytes: &[u8], place: u64) -> Result<(RequestPart, u64), RecordFault>
-    ensures { Answers (requests_at bytes.now place) result }
-{
-    let (rows, place) = read_many(alloc, bytes, place)?;
-    let (hands, place) = read_many(alloc, bytes, place)?;
-    let (promises, place) = read_many(alloc, bytes, place)?;
-    let part = RequestPart {
-        rows,
-        hands,
-        promises,
-    };
-    Ok((part, place))
+impl SitePart {
+    // Whether no two queues, complexes or devices have one name.
+    fn fill(self, state: &mut HostState) -> Result<bool, AllocError>
+        requires queues { state.old.queues.items ≡ [] }
+        requires complexes { state.old.complexes.items ≡ [] }
+        requires devices { state.old.devices.items ≡ [] }
+        ensures distinct { IfOk result (λ filled. filled ≡ are_names_distinct self) }
+        ensures filled { IfOk result (λ filled. filled ≡ true → content state.new ≡ with_site self (content state.old)) }
+    {
+        let SitePart {
+            me,
+            site,
+            queues,
+            complexes,
+            devices,
+        } = self;
+        state.me = me;
+        state.site = site;
+        let queues_differ = fill(&mut state.queues, queues)?;
+        let complexes_differ = fill(&mut state.complexes, complexes)?;
+        let devices_differ = fill(&mut state.devices, devices)?;
+        Ok(queues_differ && complexes_differ && devices_differ)
+    }
 }
 
-#[tactic(auto, unfolding(crate::specs::Reading::dealings_at))]
-fn read_dealings(alloc: Global, bytes: &[u8], place: u64) -> Result<(DealingPart, u64), RecordFault>
-    ensures { Answers (dealings_at bytes.now place) result }
-{
-    let (peers, place) = read_list(alloc, bytes, place)?;
-    let (stages, place) = read_many(alloc, bytes, place)?;
-    let (files, place) = read_many(alloc, bytes, place)?;
-    let (managers, place) = read_list(alloc, bytes, place)?;
-    let (operators, place) = read_list(alloc, bytes, place)?;
-    let part = DealingPart {
-        peers,
-        stages,
-        files,
-        managers,
-        operators,
-    };
-    Ok((part, place))
+impl RequestPart {
+    // Whether no two requests are one, nor two handovers or promises.
+    fn fill(self, state: &mut HostState) -> Result<bool, AllocError>
+        requires hands { state.old.hands.items ≡ [] }
+        requires promises { state.old.promises.items ≡ [] }
+        ensures distinct { IfOk result (λ filled. filled ≡ are_requests_distinct self) }
+        ensures filled { IfOk result (λ filled. filled ≡ true → content state.new ≡ with_requests self (content state.old)) }
+    {
+        let RequestPart {
+            rows,
+            hands,
+            promises,
+        } = self;
+        let mut table = Table::new(state.rows.allocator());
+        let rows_differ = fill(&mut table, rows)?;
+        state.rows = Rows::from_table(table);
+        let hands_differ = fill(&mut state.hands, hands)?;
+        let promises_differ = fill(&mut state.promises, promises)?;
+        Ok(rows_differ && hands_differ && promises_differ)
+    }
 }
 
-#[tactic(auto, unfolding(crate::specs::Reading::counters_at))]
-fn read_counters(bytes: &[u8], place: u64) -> Result<(CounterPart, u64), RecordFault>
-    ensures { Answers (counters_at bytes.now place) result }
-{
-    let (default_queue, place) = read_opt_name(bytes, place)?;
-    let (global_limit, place) = read_u16(bytes, place)?;
-    let (patience, place) = read_u64(bytes, place)?;
-    let (retry_wait, place) = read_u64(bytes, place)?;
-    let (seq, place) = read_u32(bytes, place)?;
-    let (arrivals, place) = read_u64(bytes, place)?;
-    let (file_next, place) = read_u64(bytes, place)?;
-    let part = CounterPart {
-        default_queue,
-        global_limit,
-        patience,
-        retry_wait,
-        seq,
-        arrivals,
-        file_next,
-    };
-    Ok((part, place))
+impl DealingPart {
+    // Whether no two stages or files are one.
+    fn fill(self, state: &mut HostState) -> Result<bool, AllocError>
+        requires stages { state.old.stages.items ≡ [] }
+        requires files { state.old.files.items ≡ [] }
+        ensures distinct { IfOk result (λ filled. filled ≡ are_outputs_distinct self) }
+        ensures filled { IfOk result (λ filled. filled ≡ true → content state.new ≡ with_dealings self (content state.old)) }
+    {
+        let DealingPart {
+            peers,
+            stages,
+            files,
+            managers,
+            operators,
+        } = self;
+        state.peers = peers;
+        state.managers = managers;
+        state.operators = operators;
+        let stages_differ = fill(&mut state.stages, stages)?;
+        let files_differ = fill(&mut state.files, files)?;
+        Ok(stages_differ && files_differ)
+    }
 }
 
-impl Read<InSnapshot> for Parts {
-    ghost at = { parts_at };
+fn set_counters(state: &mut HostState, part: CounterPart)
+    ensures { content state.new ≡ with_counters part (content state.old) }
+{
+    state.default_queue = part.default_queue;
+    state.global_limit = part.global_limit;
+    state.patience = part.patience;
+    state.retry_wait = part.retry_wait;
+    state.seq = part.seq;
+    state.arrivals = part.arrivals;
+    state.file_next = part.file_next;
+}
 
-    #[tactic(auto, unfolding(crate::specs::Reading::parts_at))]
-    fn read(alloc: Global, bytes: &[u8], place: u64) -> Result<(Parts, u64), RecordFault> {
-        let (site, place) = read_site(alloc, bytes, place)?;
-        let (requests, place) = read_requests(alloc, bytes, place)?;
-        let (dealings, place) = read_dealings(alloc, bytes, place)?;
-        let (counters, place) = read_counters(bytes, place)?;
-        let parts = Parts {
+impl Parts {
+    /// The state of the parts, unless two of a table have one key.
+    pub(crate) fn build(self, alloc: Global) -> Result<Option<HostState>, AllocError>
+        ensures some { IfOk result (λ built. IfSome built (λ state. content state ≡ state_of self)) }
+        ensures distinct { IfOk result (λ built. IfSome built (λ _. are_keys_distinct (state_of self) ≡ true)) }
+        ensures none { IfOk result (λ built. IfNone built (are_keys_distinct (state_of self) ≡ false)) }
+    {
+        let Parts {
             site,
             requests,
             dealings,
             counters,
-        };
-        Ok((parts, place))
+        } = self;
+        let mut state = blank(alloc);
+        set_counters(&mut state, counters);
+        if !site.fill(&mut state)? {
+            return Ok(None);
+        }
+        if !requests.fill(&mut state)? {
+            return Ok(None);
+        }
+        if !dealings.fill(&mut state)? {
+            return Ok(None);
+        }
+        Ok(Some(state))
     }
 }
