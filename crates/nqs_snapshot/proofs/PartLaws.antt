@@ -30,7 +30,7 @@ use Rattle.nqs_snapshot.specs.declared.read_requests.Course.{Course}
 use Rattle.nqs_snapshot.specs.Spelling.{many_field, kind_number, hold_number, state_number, phase_number, access_field, limits_field, dest_field}
 use Rattle.nqs_snapshot.specs.Spelling.{settings_field, queue_field, complex_field, device_field, refused_field, course_field, row_field, hand_field}
 use Rattle.nqs_snapshot.specs.Spelling.{promise_field, peer_field, stage_field, file_field}
-use Rattle.nqs_snapshot.specs.Values.{IsMany, IsAccess, IsLimits, IsDest, IsQueue, IsComplex, IsDevice, IsRefused, IsRow, IsHand}
+use Rattle.nqs_snapshot.specs.Values.{IsMany, IsAccess, IsLimits, IsDest, AreSettings, IsQueue, IsComplex, IsDevice, IsRefused, IsRow, IsHand}
 use Rattle.nqs_snapshot.specs.Values.{IsPromise, IsPeer, IsStage, IsFile}
 use Rattle.nqs_snapshot.specs.Readings.{many_at, kind_of, hold_of, row_state_of, phase_of, kind_at, hold_at, row_state_at, phase_at, access_of, access_at}
 use Rattle.nqs_snapshot.specs.Readings.{limits_at, dest_at, settings_of, settings_at, queue_of, queue_at, complex_at, device_at, refused_at, course_of}
@@ -173,21 +173,14 @@ dest_law =
     mapped_read IsDest dest_field (λ v. record { queue = v.0; host = v.1 }) (λ d. (d.queue, d.host)) (λ d. refl) (λ v is. is) (λ d is. is) (λ v. refl)
     (both_read name_read (λ _ _. last_read host_law))
 
--- the settings' values, within their limits
-abbrev IsSettings : Settings → Type 0
-IsSettings c = IsName c.name × IsTrue (is_at_most 63 c.priority) × IsU16 c.run_limit × IsOpt IsU16 c.user_limit × IsLimits c.limits
+-- a queue with these settings
+abbrev of_settings : Settings → QueueDef
+of_settings c = queue_of c All [] []
 
--- the settings' fields
-abbrev spelled_settings : Settings → List ℕ
-spelled_settings c = fields (
-    short_field c.name ∷ u8_field (kind_number c.kind) ∷ bool_field c.enabled ∷ bool_field c.started ∷ bool_field c.pipe_only
-    ∷ u8_field c.priority ∷ u16_field c.run_limit ∷ opt_field u16_field c.user_limit ∷ limits_field c.limits ∷ []
-    )
-
-settings_law : IsRead IsSettings spelled_settings settings_at
-unfolding settings_at
+settings_law : IsRead (λ c. AreSettings (of_settings c)) (λ c. settings_field (of_settings c)) settings_at
+unfolding settings_at settings_field
 settings_law =
-    mapped_read IsSettings spelled_settings settings_of
+    mapped_read (λ c. AreSettings (of_settings c)) (λ c. settings_field (of_settings c)) settings_of
     (λ c. (c.name, (c.kind, (c.enabled, (c.started, (c.pipe_only, (c.priority, (c.run_limit, (c.user_limit, c.limits)))))))))
     (λ c. refl)
     (λ v is. (is.0, is.1.1.1.1.1.0, is.1.1.1.1.1.1.0, is.1.1.1.1.1.1.1.0, is.1.1.1.1.1.1.1.1))

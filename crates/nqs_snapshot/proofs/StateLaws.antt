@@ -1,12 +1,8 @@
 -- Bytes are read as a state exactly where they are its spelling.
-use Rattle.std.proofs.Common.{◌≡◌, ℕ, List, [], ◌∷◌, refl, Ok}
+use Rattle.std.proofs.Common.{◌≡◌, ℕ, List, [], None, refl, Ok}
 use Rattle.nqs_base.specs.declared.extent.Extent.{Extent}
 use Rattle.nqs_state.specs.State.{State}
-use Rattle.nqs_codec.specs.Fields.{u8_field, u16_field, u32_field, u64_field, short_field}
 use Rattle.nqs_records.specs.Changes.{AreBytes}
-use Rattle.nqs_records.specs.Spelling.{fields, opt_field}
-use Rattle.nqs_records.specs.Values.{IsU16, IsU32, IsU64, IsOpt, IsHost}
-use Rattle.nqs_base.specs.Name.{IsName}
 use Rattle.nqs_records.proofs.IsRead.{IsRead}
 use Rattle.nqs_records.proofs.Numbers.{u16_read, u32_read, u64_read}
 use Rattle.nqs_records.proofs.Named.{name_read}
@@ -18,25 +14,29 @@ use Rattle.nqs_snapshot.specs.declared.parts.RequestPart.{RequestPart}
 use Rattle.nqs_snapshot.specs.declared.parts.DealingPart.{DealingPart}
 use Rattle.nqs_snapshot.specs.declared.parts.CounterPart.{CounterPart}
 use Rattle.nqs_snapshot.specs.declared.parts.Parts.{Parts}
-use Rattle.nqs_snapshot.specs.Spelling.{many_field, queue_field, complex_field, device_field, row_field, hand_field, promise_field, peer_field, stage_field}
-use Rattle.nqs_snapshot.specs.Spelling.{file_field, site_part, request_part, dealing_part, counter_part, state_field}
-use Rattle.nqs_snapshot.specs.Values.{IsMany, IsQueue, IsComplex, IsDevice, IsRow, IsHand, IsPromise, IsPeer, IsStage, IsFile, MayStand}
+use Rattle.nqs_snapshot.specs.Spelling.{site_part, request_part, dealing_part, counter_part, state_field}
+use Rattle.nqs_snapshot.specs.Values.{MayStandSite, MayStandRequests, MayStandDealings, MayStandCounters, MayStand}
 use Rattle.nqs_snapshot.specs.Reading.{site_at, requests_at, dealings_at, counters_of, counters_at, parts_at, state_of, whole_of}
 use Rattle.nqs_snapshot.proofs.PartLaws.{many_law, queue_law, complex_law, device_law, row_law, hand_law, promise_law, peer_law, stage_law, file_law}
 
-abbrev IsSitePart : SitePart → Type 0
-IsSitePart p = IsHost p.me × IsMany IsName p.site × IsMany IsQueue p.queues × IsMany IsComplex p.complexes × IsMany IsDevice p.devices
+-- parts without values, of which one is looked at
+abbrev none : Parts
+none = record {
+  site = record { me = record { 0 = 0 }; site = []; queues = []; complexes = []; devices = [] };
+  requests = record { rows = []; hands = []; promises = [] };
+  dealings = record { peers = []; stages = []; files = []; managers = []; operators = [] };
+  counters = record { default_queue = None; global_limit = 0; patience = 0; retry_wait = 0; seq = 0; arrivals = 0; file_next = 0 };
+}
 
-abbrev spelled_site : SitePart → List ℕ
-spelled_site p = fields (
-    u8_field p.me.0 ∷ many_field short_field p.site ∷ many_field queue_field p.queues ∷ many_field complex_field p.complexes
-    ∷ many_field device_field p.devices ∷ []
-    )
+-- a state with this part
+abbrev of_site : SitePart → State Extent
+of_site p = state_of (record none { site = p })
 
-site_law : IsRead IsSitePart spelled_site site_at
-unfolding site_at
+site_law : IsRead (λ p. MayStandSite (of_site p)) (λ p. site_part (of_site p)) site_at
+unfolding site_at site_part
 site_law =
-    mapped_read IsSitePart spelled_site (λ v. record { me = v.0; site = v.1.0; queues = v.1.1.0; complexes = v.1.1.1.0; devices = v.1.1.1.1 })
+    mapped_read (λ p. MayStandSite (of_site p)) (λ p. site_part (of_site p))
+    (λ v. record { me = v.0; site = v.1.0; queues = v.1.1.0; complexes = v.1.1.1.0; devices = v.1.1.1.1 })
     (λ p. (p.me, (p.site, (p.queues, (p.complexes, p.devices)))))
     (λ p. refl)
     (λ v is. (is.0, is.1.0, is.1.1.0, is.1.1.1.0, is.1.1.1.1))
@@ -45,32 +45,25 @@ site_law =
     (both_read host_law λ _ _. both_read (many_law name_read) λ _ _. both_read (many_law queue_law) λ _ _. both_read (many_law complex_law) λ _ _.
     last_read (many_law device_law))
 
-abbrev IsRequestPart : RequestPart → Type 0
-IsRequestPart p = IsMany IsRow p.rows × IsMany IsHand p.hands × IsMany IsPromise p.promises
+abbrev of_requests : RequestPart → State Extent
+of_requests p = state_of (record none { requests = p })
 
-abbrev spelled_requests : RequestPart → List ℕ
-spelled_requests p = fields (many_field row_field p.rows ∷ many_field hand_field p.hands ∷ many_field promise_field p.promises ∷ [])
-
-requests_law : IsRead IsRequestPart spelled_requests requests_at
-unfolding requests_at
+requests_law : IsRead (λ p. MayStandRequests (of_requests p)) (λ p. request_part (of_requests p)) requests_at
+unfolding requests_at request_part
 requests_law =
-    mapped_read IsRequestPart spelled_requests (λ v. record { rows = v.0; hands = v.1.0; promises = v.1.1 }) (λ p. (p.rows, (p.hands, p.promises)))
+    mapped_read (λ p. MayStandRequests (of_requests p)) (λ p. request_part (of_requests p))
+    (λ v. record { rows = v.0; hands = v.1.0; promises = v.1.1 }) (λ p. (p.rows, (p.hands, p.promises)))
     (λ p. refl) (λ v is. (is.0, is.1.0, is.1.1)) (λ p is. (is.0, (is.1, is.2))) (λ v. refl)
     (both_read (many_law row_law) λ _ _. both_read (many_law hand_law) λ _ _. last_read (many_law promise_law))
 
-abbrev IsDealingPart : DealingPart → Type 0
-IsDealingPart p = IsMany IsPeer p.peers × IsMany IsStage p.stages × IsMany IsFile p.files × IsMany IsName p.managers × IsMany IsName p.operators
+abbrev of_dealings : DealingPart → State Extent
+of_dealings p = state_of (record none { dealings = p })
 
-abbrev spelled_dealings : DealingPart → List ℕ
-spelled_dealings p = fields (
-    many_field peer_field p.peers ∷ many_field stage_field p.stages ∷ many_field file_field p.files ∷ many_field short_field p.managers
-    ∷ many_field short_field p.operators ∷ []
-    )
-
-dealings_law : IsRead IsDealingPart spelled_dealings dealings_at
-unfolding dealings_at
+dealings_law : IsRead (λ p. MayStandDealings (of_dealings p)) (λ p. dealing_part (of_dealings p)) dealings_at
+unfolding dealings_at dealing_part
 dealings_law =
-    mapped_read IsDealingPart spelled_dealings (λ v. record { peers = v.0; stages = v.1.0; files = v.1.1.0; managers = v.1.1.1.0; operators = v.1.1.1.1 })
+    mapped_read (λ p. MayStandDealings (of_dealings p)) (λ p. dealing_part (of_dealings p))
+    (λ v. record { peers = v.0; stages = v.1.0; files = v.1.1.0; managers = v.1.1.1.0; operators = v.1.1.1.1 })
     (λ p. (p.peers, (p.stages, (p.files, (p.managers, p.operators)))))
     (λ p. refl)
     (λ v is. (is.0, is.1.0, is.1.1.0, is.1.1.1.0, is.1.1.1.1))
@@ -79,20 +72,13 @@ dealings_law =
     (both_read (many_law peer_law) λ _ _. both_read (many_law stage_law) λ _ _. both_read (many_law file_law) λ _ _. both_read (many_law name_read) λ _ _.
     last_read (many_law name_read))
 
-abbrev IsCounterPart : CounterPart → Type 0
-IsCounterPart p =
-    IsOpt IsName p.default_queue × IsU16 p.global_limit × IsU64 p.patience × IsU64 p.retry_wait × IsU32 p.seq × IsU64 p.arrivals × IsU64 p.file_next
+abbrev of_counters : CounterPart → State Extent
+of_counters p = state_of (record none { counters = p })
 
-abbrev spelled_counters : CounterPart → List ℕ
-spelled_counters p = fields (
-    opt_field short_field p.default_queue ∷ u16_field p.global_limit ∷ u64_field p.patience ∷ u64_field p.retry_wait ∷ u32_field p.seq
-    ∷ u64_field p.arrivals ∷ u64_field p.file_next ∷ []
-    )
-
-counters_law : IsRead IsCounterPart spelled_counters counters_at
-unfolding counters_at
+counters_law : IsRead (λ p. MayStandCounters (of_counters p)) (λ p. counter_part (of_counters p)) counters_at
+unfolding counters_at counter_part
 counters_law =
-    mapped_read IsCounterPart spelled_counters counters_of
+    mapped_read (λ p. MayStandCounters (of_counters p)) (λ p. counter_part (of_counters p)) counters_of
     (λ p. (p.default_queue, (p.global_limit, (p.patience, (p.retry_wait, (p.seq, (p.arrivals, p.file_next)))))))
     (λ p. refl)
     (λ v is. (is.0, is.1.0, is.1.1.0, is.1.1.1.0, is.1.1.1.1.0, is.1.1.1.1.1.0, is.1.1.1.1.1.1))
