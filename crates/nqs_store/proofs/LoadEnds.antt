@@ -14,7 +14,7 @@ use Rattle.nqs_store.specs.Told.{Host}
 use Rattle.nqs_store.specs.Active.{IsActive}
 use Rattle.nqs_store.specs.Disks.{disk_at, histories_of, contents}
 use Rattle.nqs_store.specs.Images.{IsToldHost}
-use Rattle.nqs_store.specs.Opens.{AreOpened}
+use Rattle.nqs_store.specs.Opens.{AreOpened, OpensOn, Loads}
 use Rattle.nqs_store.specs.Faults.{IsBytesFault, IsLoadFault}
 use Rattle.nqs_store.specs.Reads.{OnlyReads, FailedToRead, OnlyReadsOne, OneFailedToRead}
 use Rattle.nqs_store.specs.Stores.{disk_of, history_of, journal_in, active_of, Tells}
@@ -58,7 +58,7 @@ module _ {D : Type 0} (g : disk.Ghosts D) (disks : Disks D) (root : D)
   abbrev Spools : Answer → Type 0
   Spools r = MatchResult r (λ x. One disks.spool (spools.disk_of x.0.spool)) (λ e. One disks.spool e.1.spool)
 
-  pub reads_end : (r : Answer) → Roots r → Actives r → Rests r → Spools r
+  reads_end : (r : Answer) → Roots r → Actives r → Rests r → Spools r
       → MatchResult r (λ x. OnlyReads g.tells g.history g.fails g.starved g.faults (λ at. disk_at at disks) (λ at. disk_of at x.0))
       (λ e. OnlyReads g.tells g.history g.fails g.starved g.faults (λ at. disk_at at disks) (λ at. disk_at at e.1))
   reads_end (Ok x) is active rests spool =
@@ -72,7 +72,7 @@ module _ {D : Type 0} (g : disk.Ghosts D) (disks : Disks D) (root : D)
       (each_of b (λ w. One (disk_at w disks) (disk_at w e.1)) (subst (One disks.root) (sym is) read) active
       (one_same g.tells g.history g.fails g.starved g.faults (disk_at (journal_on (not b)) disks) (disk_at (journal_on (not b)) e.1) rests) spool)
 
-  pub failed_end : (r : Answer)
+  failed_end : (r : Answer)
       → IfErr r (λ e. (which : Which) → e.0 ≡ load.Disk which
       → ((which ≡ journal_on b) × OneFailed (disk_at (journal_on b) disks) (disk_at (journal_on b) e.1))
       ⊎ ((which ≡ Spool) × OneFailed disks.spool e.1.spool))
@@ -93,17 +93,17 @@ module _ {D : Type 0} (g : disk.Ghosts D) (disks : Disks D) (root : D)
     bad_end fault (inl memory) = inl (inr memory)
     bad_end fault (inr bad) = read_fault bytes b fault names bad
 
-    pub fault_end : (r : Answer) → Faults r → IfErr r (λ e. IsLoadFault bytes e.0)
+    fault_end : (r : Answer) → Faults r → IfErr r (λ e. IsLoadFault bytes e.0)
     fault_end (Ok x) bad = tt
     fault_end (Err e) bad = bad_end e.0 bad
 
-    pub never_end : (r : Answer) → Faults r → (host : Host) → IsToldHost bytes host
+    never_end : (r : Answer) → Faults r → (host : Host) → IsToldHost bytes host
         → IfErr r (λ e. (which : Which) (place : ℕ) → e.0 ≡ load.NotNqs which place → ⊥)
     never_end (Ok x) bad host told = tt
     never_end (Err e) bad host told = load_not bytes host e.0 told (bad_end e.0 bad)
 
     module _ (quiet : (which : Which) → IsQuiet (histories_of g.history disks which)) where
-      pub tells_end : (r : Answer) → IfOk r (λ x. AreOpened (journal_in b x.0) x.0.spool (content x.1)) → IfOk r (λ x. x.0.on_second ≡ b)
+      tells_end : (r : Answer) → IfOk r (λ x. AreOpened (journal_in b x.0) x.0.spool (content x.1)) → IfOk r (λ x. x.0.on_second ≡ b)
           → Roots r → Rests r → IfOk r (λ x. Tells x.0 (content x.1))
       tells_end (Ok x) opened on is rests =
           let same = ap g.history is ∙ read.same yes in
@@ -113,7 +113,7 @@ module _ {D : Type 0} (g : disk.Ghosts D) (disks : Disks D) (root : D)
           (subst (λ c. IsQuiet (history_of x.0 (journal_on (not c)))) (sym on) resting)
       tells_end (Err e) opened on is rests = tt
 
-    pub told_end : (r : Answer) → IfOk r (λ x. Tells x.0 (content x.1)) → Roots r → Actives r → Rests r → Spools r
+    told_end : (r : Answer) → IfOk r (λ x. Tells x.0 (content x.1)) → Roots r → Actives r → Rests r → Spools r
         → IfOk r (λ x. IsToldHost bytes (content x.1))
     told_end (Ok x) tells is active rests spool =
         let reads = reads_end (Ok x) is active rests spool in
@@ -121,7 +121,7 @@ module _ {D : Type 0} (g : disk.Ghosts D) (disks : Disks D) (root : D)
         subst (λ h. IsToldHost (contents h) (content x.1)) same (tells_read x.0 (content x.1) yes tells)
     told_end (Err e) tells is active rests spool = tt
 
-    pub active_end : (r : Answer) → IfOk r (λ x. Tells x.0 (content x.1)) → Roots r → Actives r → Rests r → Spools r
+    active_end : (r : Answer) → IfOk r (λ x. Tells x.0 (content x.1)) → Roots r → Actives r → Rests r → Spools r
         → IfOk r (λ x. IsActive bytes (active_of x.0))
     active_end (Ok x) tells is active rests spool =
         let reads = reads_end (Ok x) is active rests spool in
@@ -129,7 +129,26 @@ module _ {D : Type 0} (g : disk.Ghosts D) (disks : Disks D) (root : D)
         subst (λ h. IsActive (contents h) (active_of x.0)) same (tells_active x.0 (content x.1) tells)
     active_end (Err e) tells is active rests spool = tt
 
-    pub host_end : (r : Answer) → IfOk r (λ x. IsToldHost bytes (content x.1)) → (host : Host) → IsToldHost bytes host
+    host_end : (r : Answer) → IfOk r (λ x. IsToldHost bytes (content x.1)) → (host : Host) → IsToldHost bytes host
         → IfOk r (λ x. content x.1 ≡ host)
     host_end (Ok x) one host told = one_told bytes (content x.1) host one told
     host_end (Err e) one host told = tt
+
+  -- the whole of it, by what the opening of the journal does
+  pub loads_end : (r : Answer) → (IsTrue g.tells → b ≡ is_second (bytes Root)) → (IsTrue g.tells → (which : Which) → IsQuiet (histories_of g.history disks which))
+      → OpensOn b root (disk_at (journal_on b) disks) (disk_at (journal_on (not b)) disks) disks.spool r → Loads disks r
+  loads_end r names quiet o = record {
+    tells = tells;
+    active = λ yes. active_end yes (names yes) r (tells yes) o.root o.active o.resting o.spool;
+    sound = o.sound;
+    extents = o.extents;
+    running = o.running;
+    fault = λ yes. fault_end yes (names yes) r (o.fault yes);
+    failed = failed_end r o.failed;
+    told = λ yes. host_end yes (names yes) r (told_end yes (names yes) r (tells yes) o.root o.active o.resting o.spool);
+    never = λ yes plain is. never_end yes (names yes) r (o.fault yes) is.host is.is;
+    reads = reads_end r o.root o.active o.resting o.spool;
+  }
+    where
+      tells : IsTrue g.tells → IfOk r (λ x. Tells x.0 (content x.1))
+      tells yes = tells_end yes (names yes) (quiet yes) r (o.opened yes) o.named o.root o.resting

@@ -1,6 +1,6 @@
 //! The disks of a host that is formatted.
 
-ghost use Rattle.std.specs.Prelude.{◌≡◌, ◌⊎◌, ◌≤◌, ℕ, List, IsTrue, IsErrOf, OnOk, IfErr, ◌++◌, ◌∷◌, [], Ok};
+ghost use Rattle.std.specs.Prelude.{◌≡◌, ◌⊎◌, ◌≤◌, ℕ, List, IsTrue, IsErrOf, OnOk, IfOk, IfErr, ◌++◌, ◌∷◌, [], Ok, vec_len};
 ghost use Rattle.nqs_base.specs.Want.{want};
 ghost use Rattle.nqs_outside.specs.Causes.{Rose};
 ghost use Rattle.nqs_outside.specs.History.{Call, extended, StopsShort};
@@ -37,6 +37,32 @@ pub(crate) fn read_back(text: &[u8], change: &Change)
     ensures { MayStand change.now → text.now ≡ spelling change.now → record_of text.now ≡ Ok change.now }
 {}
 
+// The record that formats a host of this site.
+fn site_text(alloc: Global, me: HostId, site: &[Name]) -> Result<Vec<u8>, StoreFault>
+    requires { MayStand (Change.Site me site.now) }
+    ensures text { IfOk result (λ text. text.items ≡ spelling (Change.Site me site.now)) }
+    ensures short { IfOk result (λ text. vec_len text ≤ 65536) }
+    ensures read { IfOk result (λ text. record_of text.items ≡ Ok (Change.Site me site.now)) }
+    ensures fault { IfErr result (λ fault. fault ≡ StoreFault.Memory want) }
+{
+    let hosts = site.to_vec(alloc)?;
+    let change = Change::Site {
+        me,
+        site: ListOf::from_vec(hosts),
+    };
+    match written(alloc, &change) {
+        Ok(text) => {
+            read_back(&text, &change);
+            drop(change);
+            Ok(text)
+        }
+        Err(fault) => {
+            drop(change);
+            Err(fault)
+        }
+    }
+}
+
 /// Makes empty disks those of a host of this site. `Memory` comes before the first call of a disk,
 /// and `Disk` says that a call of `first` failed: the calls before it were made. The other disks
 /// are left alone.
@@ -65,13 +91,7 @@ pub fn format<D: Disk>(
     ensures second { disks.new.second ≡ disks.old.second }
     ensures spool { disks.new.spool ≡ disks.old.spool }
 {
-    let hosts = site.to_vec(alloc)?;
-    let change = Change::Site {
-        me,
-        site: ListOf::from_vec(hosts),
-    };
-    let text = written(alloc, &change)?;
-    read_back(&text, &change);
+    let text = site_text(alloc, me, site)?;
     match format_with(alloc, &mut disks.first, &text) {
         Ok(()) => Ok(()),
         Err(JournalFault::Disk) => Err(StoreFault::Disk(Which::First)),

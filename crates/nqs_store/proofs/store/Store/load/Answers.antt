@@ -2,7 +2,7 @@ use Rattle.std.proofs.Common.{◌≡◌, ◌∙◌, inl, true, false, refl, sym}
 use Rattle.nqs_types.specs.declared.world.Which.TheVariants.{Root, First, Second, Spool}
 use Rattle.nqs_store.proofs.EachDisk.{each_disk}
 use Rattle.nqs_store.proofs.Opening.{one_same, each_reads, failed_at}
-use Rattle.nqs_store.proofs.LoadEnds.{tells_end, told_end, active_end, host_end, fault_end, failed_end, never_end, reads_end}
+use Rattle.nqs_store.proofs.LoadEnds.{loads_end}
 use Rattle.nqs_store.proofs.store.Store.load.Goals as goal
 
 pub open_second-requires : goal.open_second-requires
@@ -31,79 +31,11 @@ returns-in_default g c = record {
 }
 
 pub returns-then-on_second : goal.returns-then-on_second
-returns-then-on_second g c = record {
-  tells =
-      λ told.
-      tells_end g.D.Disk c.args.disks _ c.in-Ok.ensures.reads true told (sym c.if-on_second.true ∙ c.in-Ok.ensures.names told)
-      (c.requires told) c.open_second.result (c.open_second.ensures.opened told) c.open_second.ensures.named c.open_second.ensures.root
-      c.open_second.ensures.resting;
-  active =
-      λ told.
-      active_end g.D.Disk c.args.disks _ c.in-Ok.ensures.reads true told (sym c.if-on_second.true ∙ c.in-Ok.ensures.names told) c.open_second.result
-      (tells_end g.D.Disk c.args.disks _ c.in-Ok.ensures.reads true told (sym c.if-on_second.true ∙ c.in-Ok.ensures.names told)
-      (c.requires told) c.open_second.result (c.open_second.ensures.opened told) c.open_second.ensures.named c.open_second.ensures.root
-      c.open_second.ensures.resting)
-      c.open_second.ensures.root c.open_second.ensures.active c.open_second.ensures.resting c.open_second.ensures.spool;
-  sound = c.open_second.ensures.sound;
-  extents = c.open_second.ensures.extents;
-  running = c.open_second.ensures.running;
-  fault =
-      λ told.
-      fault_end g.D.Disk c.args.disks _ c.in-Ok.ensures.reads true told (sym c.if-on_second.true ∙ c.in-Ok.ensures.names told) c.open_second.result
-      (c.open_second.ensures.fault told);
-  failed = failed_end g.D.Disk c.args.disks _ c.in-Ok.ensures.reads true c.open_second.result c.open_second.ensures.failed;
-  told =
-      λ told.
-      let tells = tells_end g.D.Disk c.args.disks _ c.in-Ok.ensures.reads true told (sym c.if-on_second.true ∙ c.in-Ok.ensures.names told)
-      (c.requires told) c.open_second.result (c.open_second.ensures.opened told) c.open_second.ensures.named c.open_second.ensures.root
-      c.open_second.ensures.resting in
-      host_end g.D.Disk c.args.disks _ c.in-Ok.ensures.reads true told (sym c.if-on_second.true ∙ c.in-Ok.ensures.names told) c.open_second.result
-      (told_end g.D.Disk c.args.disks _ c.in-Ok.ensures.reads true told (sym c.if-on_second.true
-      ∙ c.in-Ok.ensures.names told) c.open_second.result tells c.open_second.ensures.root c.open_second.ensures.active c.open_second.ensures.resting
-      c.open_second.ensures.spool);
-  never =
-      λ told plain is.
-      never_end g.D.Disk c.args.disks _ c.in-Ok.ensures.reads true told (sym c.if-on_second.true ∙ c.in-Ok.ensures.names told) c.open_second.result
-      (c.open_second.ensures.fault told) is.host is.is;
-  reads = reads_end g.D.Disk c.args.disks _ c.in-Ok.ensures.reads true c.open_second.result c.open_second.ensures.root c.open_second.ensures.active
-      c.open_second.ensures.resting c.open_second.ensures.spool;
-}
+returns-then-on_second g c =
+    loads_end g.D.Disk c.args.disks _ c.in-Ok.ensures.reads true c.open_second.result (λ told. sym c.if-on_second.true ∙ c.in-Ok.ensures.names told)
+    c.requires c.open_second.ensures
 
 pub returns-else-on_second : goal.returns-else-on_second
-returns-else-on_second g c = record {
-  tells =
-      λ told.
-      tells_end g.D.Disk c.args.disks _ c.in-Ok.ensures.reads false told (sym c.if-on_second.false ∙ c.in-Ok.ensures.names told)
-      (c.requires told) c.open_first.result (c.open_first.ensures.opened told) c.open_first.ensures.named c.open_first.ensures.root
-      c.open_first.ensures.resting;
-  active =
-      λ told.
-      active_end g.D.Disk c.args.disks _ c.in-Ok.ensures.reads false told (sym c.if-on_second.false ∙ c.in-Ok.ensures.names told) c.open_first.result
-      (tells_end g.D.Disk c.args.disks _ c.in-Ok.ensures.reads false told (sym c.if-on_second.false ∙ c.in-Ok.ensures.names told)
-      (c.requires told) c.open_first.result (c.open_first.ensures.opened told) c.open_first.ensures.named c.open_first.ensures.root
-      c.open_first.ensures.resting)
-      c.open_first.ensures.root c.open_first.ensures.active c.open_first.ensures.resting c.open_first.ensures.spool;
-  sound = c.open_first.ensures.sound;
-  extents = c.open_first.ensures.extents;
-  running = c.open_first.ensures.running;
-  fault =
-      λ told.
-      fault_end g.D.Disk c.args.disks _ c.in-Ok.ensures.reads false told (sym c.if-on_second.false ∙ c.in-Ok.ensures.names told) c.open_first.result
-      (c.open_first.ensures.fault told);
-  failed = failed_end g.D.Disk c.args.disks _ c.in-Ok.ensures.reads false c.open_first.result c.open_first.ensures.failed;
-  told =
-      λ told.
-      let tells = tells_end g.D.Disk c.args.disks _ c.in-Ok.ensures.reads false told (sym c.if-on_second.false ∙ c.in-Ok.ensures.names told)
-      (c.requires told) c.open_first.result (c.open_first.ensures.opened told) c.open_first.ensures.named c.open_first.ensures.root
-      c.open_first.ensures.resting in
-      host_end g.D.Disk c.args.disks _ c.in-Ok.ensures.reads false told (sym c.if-on_second.false ∙ c.in-Ok.ensures.names told) c.open_first.result
-      (told_end g.D.Disk c.args.disks _ c.in-Ok.ensures.reads false told (sym c.if-on_second.false
-      ∙ c.in-Ok.ensures.names told) c.open_first.result tells c.open_first.ensures.root c.open_first.ensures.active c.open_first.ensures.resting
-      c.open_first.ensures.spool);
-  never =
-      λ told plain is.
-      never_end g.D.Disk c.args.disks _ c.in-Ok.ensures.reads false told (sym c.if-on_second.false ∙ c.in-Ok.ensures.names told) c.open_first.result
-      (c.open_first.ensures.fault told) is.host is.is;
-  reads = reads_end g.D.Disk c.args.disks _ c.in-Ok.ensures.reads false c.open_first.result c.open_first.ensures.root c.open_first.ensures.active
-      c.open_first.ensures.resting c.open_first.ensures.spool;
-}
+returns-else-on_second g c =
+    loads_end g.D.Disk c.args.disks _ c.in-Ok.ensures.reads false c.open_first.result (λ told. sym c.if-on_second.false ∙ c.in-Ok.ensures.names told)
+    c.requires c.open_first.ensures
