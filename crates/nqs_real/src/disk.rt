@@ -30,8 +30,7 @@ impl FileDisk {
     pub fn open(rt: &HostRuntime, folder: &str, name: &str) -> io::Result<FileDisk>
         ensures { IfOk result (λ disk. disk.faults ≡ 0) }
     {
-        let path = format!(in rt.alloc(); "{folder}/{name}")?;
-        let file = open_or_make(rt, folder, &path)?;
+        let file = open_in(rt, folder, name)?;
         file.sync_all()?;
         let disk = FileDisk { file, faults: 0 };
         disk.length()?;
@@ -97,6 +96,11 @@ fn open_or_make(rt: &HostRuntime, folder: &str, path: &str) -> io::Result<File> 
         }
         Err(e) => Err(e),
     }
+}
+
+fn open_in(rt: &HostRuntime, folder: &str, name: &str) -> io::Result<File> {
+    let path = format!(in rt.alloc(); "{folder}/{name}")?;
+    open_or_make(rt, folder, &path)
 }
 
 impl Disk for FileDisk {

@@ -83,6 +83,15 @@ pub(crate) fn jobs_path(rt: &HostRuntime, folder: &str) -> io::Result<String> {
     Ok(format!(in rt.alloc(); "{}/jobs", folder.as_str())?)
 }
 
+fn open_lock(rt: &HostRuntime, folder: &str) -> io::Result<File> {
+    let path = format!(in rt.alloc(); "{folder}/lock")?;
+    OpenOptions::new()
+        .write(true)
+        .create(true)
+        .mode(0o600)
+        .open(rt, &path)
+}
+
 /// The lock of a host's folder. The system gives it back when the value is dropped, or the process
 /// ends.
 #[derive(Drop)]
@@ -94,12 +103,7 @@ impl HostLock {
     /// Locks the file `lock` in the folder of a host. Where another process has the lock it fails
     /// at once, with `WouldBlock`.
     pub fn take(rt: &HostRuntime, folder: &str) -> io::Result<HostLock> {
-        let path = format!(in rt.alloc(); "{folder}/lock")?;
-        let file = OpenOptions::new()
-            .write(true)
-            .create(true)
-            .mode(0o600)
-            .open(rt, &path)?;
+        let file = open_lock(rt, folder)?;
         file.try_lock()?;
         Ok(HostLock { _file: file })
     }

@@ -71,6 +71,11 @@ fn write_private(rt: &HostRuntime, path: &str, bytes: &[u8]) -> io::Result<()> {
     file.write_all(bytes)
 }
 
+fn write_in(rt: &HostRuntime, place: &str, name: &str, bytes: &[u8]) -> io::Result<()> {
+    let path = format!(in rt.alloc(); "{place}/{name}")?;
+    write_private(rt, &path, bytes)
+}
+
 // The folder of the jobs of a host, without what an earlier daemon left: processes of its jobs, and
 // their files.
 fn make_jobs(rt: &HostRuntime, folder: &str) -> io::Result<String> {
@@ -79,6 +84,17 @@ fn make_jobs(rt: &HostRuntime, folder: &str) -> io::Result<String> {
     let _ = fs::remove_dir_all(rt, &jobs);
     make_folder(rt, folder, "jobs")?;
     Ok(jobs)
+}
+
+// The same of a host of the site.
+fn make_jobs_of(
+    rt: &HostRuntime,
+    dir: &str,
+    site: &[SiteHost],
+    host: HostId,
+) -> io::Result<String> {
+    let folder = format!(in rt.alloc(); "{dir}/{}", host_text(site, host)?)?;
+    make_jobs(rt, &folder)
 }
 
 // Does the shepherd still run? Where it has ended and its job's folder is there yet, it was cut
@@ -108,8 +124,7 @@ impl ShepherdLauncher {
         ensures { IfOk result (λ launcher. launcher.faults ≡ 0) }
     {
         let alloc = rt.alloc();
-        let folder = format!(in alloc; "{dir}/{}", host_text(site, host)?)?;
-        let jobs = make_jobs(&rt, &folder)?;
+        let jobs = make_jobs_of(&rt, dir, site, host)?;
         Ok(ShepherdLauncher {
             program: String::from_str(alloc, program)?,
             dir: String::from_str(alloc, dir)?,
@@ -141,15 +156,10 @@ impl ShepherdLauncher {
 
     // Writes what the shepherd reads.
     fn write_job(&self, place: &str, order: &LaunchOrder, script: &[u8]) -> io::Result<()> {
-        let alloc = self.rt.alloc();
         make_private(&self.rt, place)?;
-        write_private(&self.rt, &format!(in alloc; "{place}/script")?, script)?;
+        write_in(&self.rt, place, "script", script)?;
         let text = order_text(&self.rt, order)?;
-        write_private(
-            &self.rt,
-            &format!(in alloc; "{place}/order")?,
-            text.as_bytes(),
-        )
+        write_in(&self.rt, place, "order", text.as_bytes())
     }
 
     // The words of `setpriv` that start the shepherd.
@@ -188,14 +198,19 @@ impl ShepherdLauncher {
         self.spawn_by(&mut command, place, id, start)
     }
 
+    // Writes what the shepherd reads, and starts it.
+    fn begin_in(&self, place: &str, order: &LaunchOrder, script: &[u8]) -> io::Result<Child> {
+        self.write_job(place, order, script)?;
+        self.spawn(place, order.id, order.start)
+    }
+
     fn begin(&mut self, order: &LaunchOrder, script: &[u8]) -> io::Result<()>
         ensures { self.new.faults ≡ self.old.faults }
     {
         self.sweep();
         self.shepherds.reserve(1)?;
         let place = self.place_of(order.id, order.start)?;
-        self.write_job(&place, order, script)?;
-        let child = self.spawn(&place, order.id, order.start)?;
+        let child = self.begin_in(&place, order, script)?;
         self.shepherds
             .push(Shepherd { child, place })
             .map_err(AllocError::from)?;
@@ -205,8 +220,7 @@ impl ShepherdLauncher {
     // The file that the runner looks for. Where the job's folder is gone, the job has ended.
     fn write_kill(&self, id: RequestId, start: u16) -> io::Result<()> {
         let place = self.place_of(id, start)?;
-        let path = format!(in self.rt.alloc(); "{place}/kill")?;
-        match write_private(&self.rt, &path, b"") {
+        match write_in(&self.rt, &place, "kill", b"") {
             Err(e) if !matches!(e.kind(), ErrorKind::NotFound | ErrorKind::AlreadyExists) => Err(e),
             _ => Ok(()),
         }

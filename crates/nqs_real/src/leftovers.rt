@@ -75,9 +75,14 @@ fn is_passed_over(e: &io::Error) -> bool {
         || e.raw_os_error() == Some(NO_PROCESS)
 }
 
+fn read_environ(rt: &HostRuntime, number: u32) -> io::Result<Vec<u8>> {
+    let path = format!(in rt.alloc(); "/proc/{number}/environ")?;
+    fs::read(rt, &path)
+}
+
 // The environment that a process was started with; an empty one of a process that is passed over.
 fn environ_of(rt: &HostRuntime, number: u32) -> io::Result<Vec<u8>> {
-    match fs::read(rt, &format!(in rt.alloc(); "/proc/{number}/environ")?) {
+    match read_environ(rt, number) {
         Err(e) if is_passed_over(&e) => Ok(Vec::new(rt.alloc())),
         read => read,
     }
@@ -100,23 +105,34 @@ fn add_marked(
     Ok(())
 }
 
+// The same for each file of `/proc`.
+fn add_each_marked(rt: &HostRuntime, mark: &Mark, found: &mut Vec<String>) -> io::Result<()> {
+    for entry in fs::read_dir(rt, "/proc")? {
+        add_marked(rt, entry?.file_name(), mark, found)?;
+    }
+    Ok(())
+}
+
 // The numbers of the processes with this mark, but for this process.
 fn look(rt: &HostRuntime, mark: &Mark) -> io::Result<Vec<String>> {
     let mut found = Vec::new(rt.alloc());
-    for entry in fs::read_dir(rt, "/proc")? {
-        add_marked(rt, entry?.file_name(), mark, &mut found)?;
-    }
+    add_each_marked(rt, mark, &mut found)?;
     Ok(found)
+}
+
+// Sends SIGKILL to these processes. Are there none?
+fn end_these(rt: &HostRuntime, found: &[String]) -> io::Result<bool> {
+    if found.is_empty() {
+        return Ok(true);
+    }
+    end_processes(rt, found)?;
+    Ok(false)
 }
 
 // Sends SIGKILL to each process that a look finds. Did it find none?
 fn end_found(rt: &HostRuntime, mark: &Mark) -> io::Result<bool> {
     let found = look(rt, mark)?;
-    if found.is_empty() {
-        return Ok(true);
-    }
-    end_processes(rt, &found)?;
-    Ok(false)
+    end_these(rt, &found)
 }
 
 // Ends each process with this mark, but for this process, by SIGKILL: it looks until two looks in a

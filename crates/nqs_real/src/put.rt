@@ -74,6 +74,19 @@ fn folder_at(path: &str, place: usize) -> Option<&str> {
     }
 }
 
+fn move_in(rt: &HostRuntime, folder: &str, path: &str, new: &str) -> io::Result<()> {
+    let place = format!(in rt.alloc(); "{folder}/{path}")?;
+    rename(rt, new, &place)
+}
+
+// Puts a file at the path, which is first written to the new one.
+fn put_by(rt: &HostRuntime, folder: &str, path: &str, new: &str, bytes: &[u8]) -> io::Result<()> {
+    write_new(rt, new, bytes)?;
+    make_folders(rt, folder, path)?;
+    move_in(rt, folder, path, new)?;
+    sync_folders(rt, folder, path)
+}
+
 /// Puts a file at a path below the folder, in place of one that was there; folders on its way are
 /// made. At Ok it outlasts a stop, and at an `Err` either file may be there, whole. The bytes are
 /// first written to the file `FOLDER.new`.
@@ -85,8 +98,5 @@ pub(crate) fn put_file(
 ) -> io::Result<()> {
     let path = path_text(path)?;
     let new = format!(in rt.alloc(); "{folder}.new")?;
-    write_new(rt, &new, bytes)?;
-    make_folders(rt, folder, path)?;
-    rename(rt, &new, &format!(in rt.alloc(); "{folder}/{path}")?)?;
-    sync_folders(rt, folder, path)
+    put_by(rt, folder, path, &new, bytes)
 }

@@ -116,11 +116,16 @@ impl ShellRunner {
         })
     }
 
-    fn add_words(&self, command: &mut Command, name: &str, order: &JobOrder) -> io::Result<()> {
+    fn add_shell(&self, command: &mut Command, name: &str) -> io::Result<()> {
         let script = format!(in self.rt.alloc(); "../jobs/{name}/script")?;
+        add_words(command, &["/bin/sh", "-c", SHELL, script.as_str()])?;
+        Ok(())
+    }
+
+    fn add_words(&self, command: &mut Command, name: &str, order: &JobOrder) -> io::Result<()> {
         add_words(command, &["--pdeathsig", "KILL", "setsid"])?;
         add_limits(&self.rt, command, order)?;
-        add_words(command, &["/bin/sh", "-c", SHELL, script.as_str()])?;
+        self.add_shell(command, name)?;
         command.current_dir(&self.work)?;
         Ok(())
     }
@@ -141,13 +146,42 @@ impl ShellRunner {
     }
 
     fn spawn(&self, command: &mut Command, place: &str) -> io::Result<Child> {
-        let out = make_output(&self.rt, place, "out")?;
-        let err = make_output(&self.rt, place, "err")?;
-        command
-            .stdin(Stdio::null())
-            .stdout(out)
-            .stderr(err)
-            .spawn(&self.rt)
+        command.stdout(make_output(&self.rt, place, "out")?);
+        command.stderr(make_output(&self.rt, place, "err")?);
+        command.stdin(Stdio::null()).spawn(&self.rt)
+    }
+
+    // The text of the job's order.
+    fn read_text(&self, place: &str) -> io::Result<String> {
+        let path = format!(in self.rt.alloc(); "{place}/order")?;
+        fs::read_to_string(&self.rt, &path)
+    }
+
+    // Makes a command, which has no words yet, that of the job by its order.
+    fn add_order(
+        &self,
+        command: &mut Command,
+        name: &str,
+        id: RequestId,
+        start: u16,
+        order: &JobOrder,
+    ) -> io::Result<()> {
+        self.add_words(command, name, order)?;
+        self.set_names(command, id, start, order)
+    }
+
+    // The same, by the order that the job's folder has.
+    fn add_job(
+        &self,
+        command: &mut Command,
+        place: &str,
+        name: &str,
+        id: RequestId,
+        start: u16,
+    ) -> io::Result<()> {
+        let text = self.read_text(place)?;
+        let order = read_order(&text)?;
+        self.add_order(command, name, id, start, &order)
     }
 
     // Starts the job by this command, which has no words yet.
@@ -159,11 +193,7 @@ impl ShellRunner {
         id: RequestId,
         start: u16,
     ) -> io::Result<Child> {
-        let path = format!(in self.rt.alloc(); "{place}/order")?;
-        let text = fs::read_to_string(&self.rt, &path)?;
-        let order = read_order(&text)?;
-        self.add_words(command, name, &order)?;
-        self.set_names(command, id, start, &order)?;
+        self.add_job(command, place, name, id, start)?;
         put_mark(command, place)?;
         self.spawn(command, place)
     }
@@ -173,17 +203,22 @@ impl ShellRunner {
         self.spawn_job(&mut command, place, name, id, start)
     }
 
-    // How the job ended. One that outlives the last look is an `Err`.
-    fn watch(&self, child: &mut Child, place: &str) -> io::Result<ExitStatus> {
-        let kill = format!(in self.rt.alloc(); "{place}/kill")?;
+    // Ends the job's session, and the process that leads it.
+    fn end(&self, child: &mut Child) {
+        let _ = end_session(&self.rt, child.id());
+        let _ = child.kill();
+    }
+
+    // How the job ended, which is ended where this file is there. One that outlives the last look
+    // is an `Err`.
+    fn watch_until(&self, child: &mut Child, kill: &str) -> io::Result<ExitStatus> {
         let mut wait = FIRST_WAIT;
         for _ in 0..u32::MAX {
             if let Some(status) = child.try_wait()? {
                 return Ok(status);
             }
-            if fs::exists(&self.rt, &kill)? {
-                let _ = end_session(&self.rt, child.id());
-                let _ = child.kill();
+            if fs::exists(&self.rt, kill)? {
+                self.end(child);
             }
             thread::sleep(&self.rt, Duration::from_millis(wait));
             wait = LAST_WAIT.min(wait.saturating_mul(2));
@@ -191,13 +226,22 @@ impl ShellRunner {
         Err(io::Error::from(ErrorKind::TimedOut))
     }
 
-    // Whatever comes, what is found of the job is ended, in its session or in another.
-    fn finish(&self, child: &mut Child, place: &str) -> io::Result<ExitStatus> {
-        let ended = self.watch(child, place);
-        let _ = end_session(&self.rt, child.id());
-        let _ = child.kill();
+    fn watch(&self, child: &mut Child, place: &str) -> io::Result<ExitStatus> {
+        let kill = format!(in self.rt.alloc(); "{place}/kill")?;
+        self.watch_until(child, &kill)
+    }
+
+    // Ends what is found of the job, in its session or in another.
+    fn end_all(&self, child: &mut Child, place: &str) {
+        self.end(child);
         let _ = child.wait();
         let _ = end_job(&self.rt, place);
+    }
+
+    // Whatever comes, what is found of the job is ended.
+    fn finish(&self, child: &mut Child, place: &str) -> io::Result<ExitStatus> {
+        let ended = self.watch(child, place);
+        self.end_all(child, place);
         ended
     }
 
