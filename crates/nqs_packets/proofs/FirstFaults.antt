@@ -57,7 +57,8 @@ one_byte = refl
 
 by_kind : (k : ℕ) (rest : List ℕ) → AreBytes (1 ∷ k ∷ rest) → kind_at (1 ∷ k ∷ rest) 1 ≡ cond (is_kind k) (Ok (k, 2)) (Err (record_fault.Kind 1))
 unfolding kind_at
-by_kind k rest fits = bind (u8_at (1 ∷ k ∷ rest) 1) (λ kind. cond (is_kind kind.0) (Ok kind) (Err (record_fault.Kind 1))) (k, 2) _ (u8_second 1 k rest fits) refl
+by_kind k rest fits =
+    bind (u8_at (1 ∷ k ∷ rest) 1) (λ kind. cond (is_kind kind.0) (Ok kind) (Err (record_fault.Kind 1))) (k, 2) _ (u8_second 1 k rest fits) refl
 
 abbrev kind_or : ℕ → Bool → Read (ℕ × ℕ)
 kind_or k t = cond t (Ok (k, 2)) (Err (record_fault.Kind 1))
@@ -91,7 +92,8 @@ message_fields : (k : ℕ) (rest : List ℕ) → AreBytes (1 ∷ k ∷ rest) →
 unfolding message_at ends_of
 message_fields k rest fits is =
     let bytes = 1 ∷ k ∷ rest in
-    subst (IsField bytes) (sym (bind (kind_at bytes 1) (λ kind. ends_of bytes kind.0 kind.1) (k, 2) (ends_of bytes k 2) (by_kind k rest fits ∙ ap (kind_or k) is) refl))
+    subst (IsField bytes) (sym (bind (kind_at bytes 1) (λ kind. ends_of bytes kind.0 kind.1) (k, 2) (ends_of bytes k 2)
+    (by_kind k rest fits ∙ ap (kind_or k) is) refl))
     (ends_fields bytes k 2 is)
 
 -- what an answer tells of the bytes

@@ -135,7 +135,8 @@ module _ {D : Type 0} (g : disk.Ghosts D) (disks : Disks D) (root : D)
     host_end (Err e) one host told = tt
 
   -- the whole of it, by what the opening of the journal does
-  pub loads_end : (r : Answer) → (IsTrue g.tells → b ≡ is_second (bytes Root)) → (IsTrue g.tells → (which : Which) → IsQuiet (histories_of g.history disks which))
+  pub loads_end : (r : Answer) → (IsTrue g.tells → b ≡ is_second (bytes Root))
+      → (IsTrue g.tells → (which : Which) → IsQuiet (histories_of g.history disks which))
       → OpensOn b root (disk_at (journal_on b) disks) (disk_at (journal_on (not b)) disks) disks.spool r → Loads disks r
   loads_end r names quiet o = record {
     tells = tells;

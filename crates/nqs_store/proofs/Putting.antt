@@ -3,7 +3,8 @@ use Rattle.std.proofs.Common.{◌≡◌, inl, inr, ℕ, suc, List, [], ◌∷◌
 use Rattle.std.proofs.lemmas.List.{append-nil, length-map}
 use Rattle.nqs_base.specs.declared.extent.Extent.{Extent}
 use Rattle.std.proofs.Math.Seq.{take-length}
-use Rattle.nqs_outside.specs.History.{Call, failed, State, History, content, state, state_at, after, fresh, extended, moment, IsImage, IsQuiet, EachSince, StopsShort}
+use Rattle.nqs_outside.specs.History.{Call, failed, State, History, content, state, state_at, after, fresh, extended, moment, IsImage, IsQuiet, EachSince}
+use Rattle.nqs_outside.specs.History.{StopsShort}
 use Rattle.nqs_store.proofs.TellsNow.{only_image}
 use Rattle.nqs_outside.specs.declared.disk.Disk as disk
 use Rattle.nqs_outside.proofs.Histories.{goes_on}
