@@ -28,15 +28,15 @@ pub if_read : (bytes : List ℕ) (answer : Read HostChange) → AreBytes bytes �
 if_read bytes (Ok c) fits answers = is_spelled bytes c fits (sym (answers refl))
 if_read bytes (Err fault) fits answers = tt
 
-pub not_memory : {A : Type 0} (fault : RecordFault) → fault ≢ Memory want → is_memory {A = A} (Err fault) ≡ false
-not_memory (Short place) other = refl
-not_memory (Kind place) other = refl
-not_memory (BadField place) other = refl
-not_memory (Trailing place) other = refl
-not_memory (Memory memory) other = absurd (other refl)
+pub not_memory : (A : Type 0) (fault : RecordFault) → fault ≢ Memory want → is_memory {A = A} (Err fault) ≡ false
+not_memory A (Short place) other = refl
+not_memory A (Kind place) other = refl
+not_memory A (BadField place) other = refl
+not_memory A (Trailing place) other = refl
+not_memory A (Memory memory) other = absurd (other refl)
 
 pub if_refused : (bytes : List ℕ) (answer : Read HostChange) → AreBytes bytes → Answers (record_of bytes) answer
     → IfErr answer (λ fault. fault ≢ Memory want → SpellsNone bytes)
 if_refused bytes (Ok c) fits answers = tt
 if_refused bytes (Err fault) fits answers = λ other c ok is.
-    never (record_of bytes) c fault (spelled_is bytes c fits is ok) (sym (answers (not_memory fault other)))
+    never (record_of bytes) c fault (spelled_is bytes c fits is ok) (sym (answers (not_memory _ fault other)))
