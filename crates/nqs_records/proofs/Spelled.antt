@@ -39,4 +39,4 @@ pub if_refused : (bytes : List ℕ) (answer : Read HostChange) → AreBytes byte
     → IfErr answer (λ fault. fault ≢ Memory want → SpellsNone bytes)
 if_refused bytes (Ok c) fits answers = tt
 if_refused bytes (Err fault) fits answers = λ other c ok is.
-    never (record_of bytes) c fault (spelled_is bytes c fits is ok) (sym (answers (not_memory _ fault other)))
+    never (record_of bytes) c fault (spelled_is bytes c fits is ok) (sym (answers (not_memory HostChange fault other)))

@@ -59,4 +59,4 @@ pub if_refused : (bytes : List ℕ) (answer : Result HostState RecordFault) → 
     → IfErr answer (λ fault. fault ≢ Memory want → SpellsNone bytes)
 if_refused bytes (Ok state) fits answers = tt
 if_refused bytes (Err fault) fits answers = λ other s is.
-    never (snapshot_of bytes) s fault (spelled_is bytes s fits is) (sym (answers (not_memory _ fault other)))
+    never (snapshot_of bytes) s fault (spelled_is bytes s fits is) (sym (answers (not_memory (State Extent) fault other)))
