@@ -7,6 +7,7 @@ use Rattle.std.proofs.lemmas.List.Folds.{list_all-append}
 use Rattle.std.specs.List.{list_all}
 use Rattle.nqs_types.specs.declared.world.WorldEvent.{WorldEvent}
 use Rattle.nqs_types.specs.declared.world.WorldEvent.TheVariants as event
+use Rattle.nqs_rules.specs.Find.{host_at}
 use Rattle.nqs_schedule.specs.Generated.{host_name, root_line, link_line, set_up, for_hosts, piped, submitted_once, drawn, drawn_from, generator_of}
 use Rattle.nqs_schedule.specs.Generated.{booted, generated, generated_site}
 use Rattle.nqs_language_acts.specs.Acts.{is_sane_line}
