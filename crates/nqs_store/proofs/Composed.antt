@@ -228,7 +228,7 @@ module _ {D : Type 0} {g : disk.Ghosts D} where
     abbrev no_places : List ℕ
     no_places = map (λ _. 0) puts
 
-    turn_stops : HostStops (commit_calls a' snapshot no_places puts 0 []) t.run
+    pub turn_stops : HostStops (commit_calls a' snapshot no_places puts 0 []) t.run
     turn_stops = subst (λ l. HostStops l t.run) (sym (there_calls a' due snapshot no_places puts 0 []))
         (stops_before failed_on (checkpoint_calls a' snapshot) (change_calls (turned_to a') no_places puts 0 []) t.run t.stands)
 
@@ -307,7 +307,7 @@ module _ {D : Type 0} {g : disk.Ghosts D} where
     pub there_by : {Stands : List HostCall → List HostCall → Type 0}
         → ((planned run : List HostCall) → Stands planned run → Stands (checkpoint_calls b snapshot ++ planned) (checkpoint_calls b snapshot ++ run))
         → Changing Stands mid now puts host later → CommitsBy Stands b puts (history_of old) (history_of now)
-    there_by {Stands} behind c = there_as {Stands} {Stands} behind c
+    there_by {Stands} behind c = there_as {Stands = Stands} {Other = Stands} behind c
 
     -- the journal that the record goes to, before it
     mid_record : history_of mid (journal_of (active_of mid)) ≡ before_record b snapshot (history_of old)
@@ -322,7 +322,7 @@ module _ {D : Type 0} {g : disk.Ghosts D} where
         (moments_weaker (history_of old) (checkpoint_calls b snapshot) _ _ (λ images is. inl is) first)
         (subst (λ p. Moments (history_of mid) c.run (TellsOneOf p later)) same (c.at tells')) in
         record {
-          calls = there_as {Stands} {IsBegun} (λ planned run stands. elim (begins planned run stands) [
+          calls = there_as {Stands = Stands} {Other = IsBegun} (λ planned run stands. elim (begins planned run stands) [
             | inl is ↦ inl (ap (λ l. checkpoint_calls b snapshot ++ l) is)
             | inr is ↦ inr (stops_behind failed_on (checkpoint_calls b snapshot) planned run is)
           ]) c;

@@ -152,4 +152,4 @@ module _ {D : Type 0} (g : disk.Ghosts D) (disks : Disks D) (root : D)
   }
     where
       tells : IsTrue g.tells → IfOk r (λ x. Tells x.0 (content x.1))
-      tells yes = tells_end yes (names yes) (quiet yes) r (o.opened yes) o.named o.root o.resting
+      tells told = tells_end told (names told) (quiet told) r (o.opened told) o.named o.root o.resting
