@@ -1,5 +1,5 @@
 -- What a stop in a change leaves of a host's disks, by how the change ended.
-use Rattle.std.proofs.Common.{◌≡◌, inl, inr, ℕ, ◌<◌, ◌≤◌, Bool, true, false, not, ◌||◌, List, [], refl, sym, ap, subst, ◌∙◌}
+use Rattle.std.proofs.Common.{◌≡◌, inl, inr, ℕ, ◌<◌, ◌≤◌, Bool, true, false, not, IsTrue, ◌||◌, List, [], refl, sym, ap, subst, ◌∙◌}
 use Rattle.std.specs.Prelude.{if◌then◌else◌, MatchBool}
 use Rattle.std.proofs.lemmas.Bool.{cases_lt}
 use Rattle.nqs_state.specs.State.{Plain}
