@@ -137,9 +137,9 @@ module _ (me : HostId) (site : List (List ℕ)) where
     boot_starved which now starved (inl hungry) = hungry
     boot_starved which now starved (inr (inl blown)) = absurd (true≢false (sym blown.2 ∙ unfused_now which blown.0))
     boot_starved Root now starved (inr (inr cut)) = absurd (true≢false (sym cut.1.failed.due ∙ unfused_now Root _))
-    boot_starved First now starved (inr (inr (inl cut))) = absurd (true≢false (sym cut.1.1.failed.due ∙ unfused_now Second _))
+    boot_starved First now starved (inr (inr (inl cut))) = absurd (true≢false (sym cut.2.failed.due ∙ unfused_now Second _))
     boot_starved First now starved (inr (inr (inr cut))) = absurd (true≢false (sym cut.1.failed.due ∙ unfused_now First _))
-    boot_starved Second now starved (inr (inr (inl cut))) = absurd (true≢false (sym cut.1.1.failed.due ∙ unfused_now Second _))
+    boot_starved Second now starved (inr (inr (inl cut))) = absurd (true≢false (sym cut.2.failed.due ∙ unfused_now Second _))
     boot_starved Second now starved (inr (inr (inr cut))) = absurd (true≢false (sym cut.1.failed.due ∙ unfused_now First _))
     boot_starved Spool now starved (inr (inr cut)) = absurd (true≢false (sym cut.failed.due ∙ unfused_now Spool _))
 

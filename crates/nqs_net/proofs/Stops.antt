@@ -174,9 +174,9 @@ module _ (host : Host) (fails : Which → ℕ → Bool) (old : Which → History
 
   pub cut_fate : (which : Which) → IsCutAt a fails puts old now before after which → CutsTo before after left host (fate puts host)
   cut_fate Root cut = cut_root cut.0 cut.1
-  cut_fate First (inl cut) = cut_other cut.1.0 cut.1.1
+  cut_fate First (inl cut) = cut_other cut.1 cut.2
   cut_fate First (inr cut) = cut_record cut.1
-  cut_fate Second (inl cut) = cut_other cut.1.0 cut.1.1
+  cut_fate Second (inl cut) = cut_other cut.1 cut.2
   cut_fate Second (inr cut) = cut_record cut.1
   cut_fate Spool cut = cut_spool cut.past cut.root cut.at cut.failed cut.told
 
