@@ -1,6 +1,6 @@
 /* Runs a program over a file as its input, and says its status, its processor time in microseconds
-   and its greatest memory in kilobytes. A child's greatest memory begins with that of the process it
-   was forked from, and this one is small.
+   and its greatest memory in kilobytes. A child's greatest memory begins with that of the process
+   it was forked from, and this one is small.
 
        measured FILE PROGRAM WORD.. */
 #include <fcntl.h>
