@@ -102,7 +102,11 @@ fn settled(disks: Disks<MemDisk>) -> Result<Disks<MemDisk>, Lack>
 impl MemMachine {
     /// A machine whose host has empty disks, and to whose wires these datagrams come. The call with
     /// this number fails, from 1 on: reading the site is the first.
-    pub fn new(alloc: Global, datagrams: &[&[u8]], failing: u64) -> Result<MemMachine, Memory> {
+    pub(crate) fn new(
+        alloc: Global,
+        datagrams: &[&[u8]],
+        failing: u64,
+    ) -> Result<MemMachine, Memory> {
         let mut arrivals = Items::new(alloc);
         for datagram in datagrams {
             let bytes = Vec::from_slice(alloc, datagram)?;
@@ -121,12 +125,12 @@ impl MemMachine {
     }
 
     /// How many parts were handed out and came back.
-    pub fn count(&self) -> Count {
+    pub(crate) fn count(&self) -> Count {
         self.count
     }
 
     /// What the disks hold that came back: `root`, `first`, `second` and `spool`.
-    pub fn held(&mut self) -> [Held; 4] {
+    pub(crate) fn held(&mut self) -> [Held; 4] {
         match &mut self.disks {
             Some(disks) => [
                 held(&mut disks.root),
