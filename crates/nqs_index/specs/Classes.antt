@@ -19,12 +19,14 @@ use Rattle.nqs_index.specs.Numbers.{number}
 abbrev pub class_eq : Class → Class → Bool
 class_eq a b = name_eq a.owner b.owner && (option_eq name_eq a.forms b.forms && (a.earliest == b.earliest && beq a.far b.far))
 
+-- forms that compare alike are one
 forms_exact : (a b : Option (List ℕ)) → option_eq name_eq a b ≡ true → a ≡ b
 forms_exact None None h = (λ _. None)
 forms_exact None (Some d) h = absurd (true≢false (sym h))
 forms_exact (Some c) None h = absurd (true≢false (sym h))
 forms_exact (Some c) (Some d) h = (λ j. Some (name_exact c d h j))
 
+-- flags that compare alike are one
 flag_exact : (a b : Bool) → beq a b ≡ true → a ≡ b
 flag_exact true true h = (λ _. true)
 flag_exact true false h = absurd (true≢false (sym h))

@@ -65,13 +65,14 @@ tally_exact (Printing _) (Active _) h = absurd (true≢false (sym h))
 tally_exact (Printing _) (Running _) h = absurd (true≢false (sym h))
 tally_exact (Printing _) (Owned _ _) h = absurd (true≢false (sym h))
 
+-- each tally compares alike with itself
 same_tally : (k : Tally) → tally_eq k k ≡ true
 same_tally (Active q) = nat_list_eq_equiv.refl q
 same_tally (Running q) = nat_list_eq_equiv.refl q
 same_tally (Owned q o) = and_from (name_eq q q) (name_eq o o) (nat_list_eq_equiv.refl q) (nat_list_eq_equiv.refl o)
 same_tally (Printing d) = nat_list_eq_equiv.refl d
 
--- each tally compares alike with itself, and those that do so are one
+-- comparing tallies is an equivalence, and those that compare alike are one
 pub tally_equiv : IsEquivalence tally_eq
 tally_equiv = record {
   refl = same_tally;

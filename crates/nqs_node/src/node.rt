@@ -152,7 +152,7 @@ impl<D: Disk> Node<D> {
         &self.state
     }
 
-    /// Whether an earlier call was answered `Disk`.
+    /// Whether an earlier `take` or `start_next` was answered `Disk`; a reading stops nothing.
     pub fn is_stopped(&self) -> bool
         ensures { result ≡ is_stopped self.now }
     {

@@ -50,7 +50,7 @@ abbrev pub passes : {V : Type 0} → (V → Bool) → Option V → Bool
 passes test None = false
 passes test (Some v) = test v
 
--- the greatest numbers of 64 and of 32 bits that a counter may have, the latter but for one
+-- the greatest number of 64 bits
 abbrev pub last_u64 : ℕ
 last_u64 = 18446744073709551615
 

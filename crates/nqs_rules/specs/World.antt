@@ -428,8 +428,6 @@ taken_by (Some host) h f w = if host.up then f host w else seeing (seen.Down h) 
 abbrev pub takes : HostId → Event → World → Ran
 takes h e w = taken_by (host_of h w) h (λ host. takes_up h host e) w
 
--- the least running request of a host, by the host of its submission and then by its number
-
 -- a job ends, with status 0; of a host that runs none it is seen that it is idle
 abbrev pub finishes : HostId → Host → Option (ℕ × Row Bytes) → World → Ran
 finishes h host None w = seeing (seen.Idle h) w

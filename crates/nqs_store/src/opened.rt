@@ -25,7 +25,7 @@ use std::alloc::Global;
 impl<D: Disk> Store<D> {
     ghost use Rattle.nqs_store.specs.Stores.{history_of, is_stopped, active_of, Tells, bytes_of, OnlyReads, FailedToRead};
 
-    /// Whether an earlier commit was answered `Disk`.
+    /// Whether an earlier commit or checkpoint was answered `Disk`.
     pub fn is_stopped(&self) -> bool
         ensures { result ≡ is_stopped self.now }
     {
