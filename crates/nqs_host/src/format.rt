@@ -65,7 +65,7 @@ fn new_peers(alloc: Global, site: &NameList) -> Result<PeerList, Memory>
     Ok(ListOf::from_vec(peers))
 }
 
-/// A host of this site, as it is formatted.
+/// A host of this site, as it is formatted. Its rows get their index as it boots.
 pub fn formatted(alloc: Global, me: HostId, site: NameList) -> Result<HostState, Memory>
     ensures { IfOk result (λ state. content state ≡ formatted me site) }
 {
@@ -78,7 +78,7 @@ pub fn formatted(alloc: Global, me: HostId, site: NameList) -> Result<HostState,
         queues,
         complexes: Table::new(alloc),
         devices: Table::new(alloc),
-        rows: Rows::new(alloc),
+        rows: Rows::unindexed(alloc),
         hands: Table::new(alloc),
         promises: Table::new(alloc),
         peers,

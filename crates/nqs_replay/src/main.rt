@@ -9,9 +9,6 @@ ghost use Rattle.nqs_outside.specs.Streams.{sunk, fed};
 ghost use Rattle.nqs_network_runs.specs.Numbers.{number_of};
 ghost use Rattle.nqs_replay.specs.Exits.{Exits};
 
-#[cfg(test)]
-mod tests;
-
 use nqs_base::Memory;
 use nqs_network_runs::replay::replay;
 use nqs_network_runs::status::Status;

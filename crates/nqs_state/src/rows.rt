@@ -1,6 +1,7 @@
 //! The requests of a host: a table of them, which is changed by the calls here alone, and beside it
 //! an index that stands for the rows. The index is only for speed: where it can't be had, for want
-//! of memory or since it has too many names, there is none, and no call fails for that.
+//! of memory or since it has too many names, there is none, and no call fails for that. While a
+//! host is told by its journal there is none either: its boot makes it, behind all records.
 ghost use Rattle.std.specs.Prelude.{◌≡◌, ℕ, ◌+◌, ◌≤◌, ◌<◌, [], ◌∷◌, ◌++◌, length, map, position, find, Some, None, OnOk, IfSome, Bool};
 ghost use Rattle.std.specs.Prelude.{List, Option, Contains, filter, if◌then◌else◌, slice_get, true, false};
 ghost use Rattle.std.specs.Option.{option_copied, option_map};
@@ -28,12 +29,18 @@ pub struct Rows {
     table: Table<RequestId, Row>,
     /// Stands for the rows, where there is one.
     index: Option<Index>,
+    /// Whether one is to be. If not, the next revision makes one.
+    is_indexed: bool,
 }
 
 // Written out, so that the rows are let go by one call.
 impl Drop for Rows {
     fn drop(self) {
-        let Rows { table: _, index: _ } = self;
+        let Rows {
+            table: _,
+            index: _,
+            is_indexed: _,
+        } = self;
     }
 }
 
@@ -159,15 +166,26 @@ impl Rows {
         Rows {
             table: Table::new(alloc),
             index: Some(Index::empty(alloc)),
+            is_indexed: true,
         }
     }
 
-    /// The rows of a table.
+    /// The rows of a table, which have no index until they are revised.
     pub fn from_table(table: Table<RequestId, Row>) -> Self
         ensures { result ≡ table }
     {
-        let index = Index::build(table.allocator(), &table);
-        Rows { table, index }
+        Rows {
+            table,
+            index: None,
+            is_indexed: false,
+        }
+    }
+
+    /// No rows, which have no index until they are revised.
+    pub fn unindexed(alloc: Global) -> Self
+        ensures { result.items ≡ [] }
+    {
+        Rows::from_table(Table::new(alloc))
     }
 
     /// The rows as a table, for calls that any table may have.
@@ -196,15 +214,15 @@ impl Rows {
         self.index.as_ref()
     }
 
-    /// Makes room for more rows, and an index where there is none and memory allows, for which all
-    /// rows are sorted. An `Err` leaves the rows as they were.
+    /// Makes room for more rows, and where an index is to be and there is none, also that, if
+    /// memory allows: all rows are sorted for it. An `Err` leaves the rows as they were.
     pub fn reserve(&mut self, additional: usize) -> Result<(), AllocError>
         ensures items { self.new.items ≡ self.old.items }
         ensures ok { OnOk result (additional ≤ self.new.spare) }
         ensures room { self.old.spare ≤ self.new.spare }
     {
         self.table.reserve(additional)?;
-        if self.index.is_none() {
+        if self.is_indexed && self.index.is_none() {
             self.index = Index::build(self.table.allocator(), &self.table);
         }
         Ok(())
@@ -283,7 +301,7 @@ impl Rows {
     }
 
     /// Goes over the rows in order: each is changed, and kept where the answer is true. No id
-    /// changes.
+    /// changes. The index is made anew, also where there was to be none until now.
     pub fn revise<F: FnMut(&RequestId, &mut Row) -> bool>(&mut self, f: F)
         requires may { (s : _) (x y : _) → F.pre s x y }
         requires keeps { (s t : F) (k : RequestId) (v w : Row Extent) (b : Bool) → CalledAtPair F.FnMut s k v b w t → w.id ≡ v.id }
@@ -297,6 +315,7 @@ impl Rows {
     {
         self.table.revise(f);
         self.index = Index::build(self.table.allocator(), &self.table);
+        self.is_indexed = true;
     }
 
     /// Whether a row has this id.
