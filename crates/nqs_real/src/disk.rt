@@ -4,7 +4,7 @@ ghost use Rattle.std.specs.Prelude.{◌≡◌, ◌≤◌, ◌+◌, ◌^◌, IfOk
 ghost use Rattle.nqs_outside.specs.History.{fresh};
 
 use crate::counted::counted;
-use crate::folder::sync_folder;
+use crate::folder::{path_in, sync_folder};
 use nqs_outside::{Disk, Failed};
 use std::fs::{File, OpenOptions};
 use std::io;
@@ -99,7 +99,7 @@ fn open_or_make(rt: &HostRuntime, folder: &str, path: &str) -> io::Result<File> 
 }
 
 fn open_in(rt: &HostRuntime, folder: &str, name: &str) -> io::Result<File> {
-    let path = format!(in rt.alloc(); "{folder}/{name}")?;
+    let path = path_in(rt, folder, name)?;
     open_or_make(rt, folder, &path)
 }
 

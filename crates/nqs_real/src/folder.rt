@@ -1,6 +1,6 @@
-//! Folders: that of a host, and the lock of its daemon.
+//! Folders: what stands in them, that of a host, and the lock of its daemon.
 
-ghost use Rattle.std.specs.Prelude.{◌≡◌, IfOk, string_bytes};
+ghost use Rattle.std.specs.Prelude.{◌≡◌, ◌++◌, IfOk, codes, string_bytes};
 ghost use Rattle.nqs_real.specs.Names.{name_at, request_text};
 
 use crate::site::SiteHost;
@@ -11,6 +11,13 @@ use std::io::ErrorKind;
 use std::os::unix::fs::{DirBuilderExt, OpenOptionsExt};
 use std::rt::HostRuntime;
 use std::{fs, io};
+
+/// The path of what has this name, or this path, in a folder.
+pub(crate) fn path_in(rt: &HostRuntime, folder: &str, name: &str) -> io::Result<String>
+    ensures { IfOk result (λ path. string_bytes path ≡ folder.now ++ codes "/" ++ name.now) }
+{
+    Ok(format!(in rt.alloc(); "{folder}/{name}")?)
+}
 
 /// Makes what stands in the folder outlast a stop: that a file is there, and under which name.
 pub(crate) fn sync_folder(rt: &HostRuntime, folder: &str) -> io::Result<()> {
@@ -30,7 +37,7 @@ pub(crate) fn make_private(rt: &HostRuntime, path: &str) -> io::Result<bool> {
 
 /// The path of a folder in another. Where it isn't there it is made, and the other is synced.
 pub(crate) fn make_folder(rt: &HostRuntime, parent: &str, name: &str) -> io::Result<String> {
-    let path = format!(in rt.alloc(); "{parent}/{name}")?;
+    let path = path_in(rt, parent, name)?;
     if make_private(rt, &path)? {
         sync_folder(rt, parent)?;
     }
@@ -80,11 +87,11 @@ pub fn make_host_folder(
 /// host's folder is there; the folder `jobs` need not be.
 pub(crate) fn jobs_path(rt: &HostRuntime, folder: &str) -> io::Result<String> {
     let folder = fs::canonicalize(rt, folder)?;
-    Ok(format!(in rt.alloc(); "{}/jobs", folder.as_str())?)
+    path_in(rt, folder.as_str(), "jobs")
 }
 
 fn open_lock(rt: &HostRuntime, folder: &str) -> io::Result<File> {
-    let path = format!(in rt.alloc(); "{folder}/lock")?;
+    let path = path_in(rt, folder, "lock")?;
     OpenOptions::new()
         .write(true)
         .create(true)

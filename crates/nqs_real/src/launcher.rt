@@ -5,7 +5,7 @@ ghost use Rattle.std.specs.Prelude.{◌≡◌, ◌++◌, None, IfOk, codes, stri
 ghost use Rattle.nqs_real.specs.Names.{job_text};
 
 use crate::counted::counted;
-use crate::folder::{host_text, jobs_path, make_folder, make_private, request_text};
+use crate::folder::{host_text, jobs_path, make_folder, make_private, path_in, request_text};
 use crate::leftovers::{end_job, end_jobs, put_mark};
 use crate::order::order_text;
 use crate::program::{add_words, start_quietly};
@@ -72,7 +72,7 @@ fn write_private(rt: &HostRuntime, path: &str, bytes: &[u8]) -> io::Result<()> {
 }
 
 fn write_in(rt: &HostRuntime, place: &str, name: &str, bytes: &[u8]) -> io::Result<()> {
-    let path = format!(in rt.alloc(); "{place}/{name}")?;
+    let path = path_in(rt, place, name)?;
     write_private(rt, &path, bytes)
 }
 
@@ -93,7 +93,7 @@ fn make_jobs_of(
     site: &[SiteHost],
     host: HostId,
 ) -> io::Result<String> {
-    let folder = format!(in rt.alloc(); "{dir}/{}", host_text(site, host)?)?;
+    let folder = path_in(rt, dir, host_text(site, host)?)?;
     make_jobs(rt, &folder)
 }
 
@@ -151,7 +151,7 @@ impl ShepherdLauncher {
         ensures { IfOk result (λ place. string_bytes place ≡ string_bytes self.now.jobs ++ codes "/" ++ job_text id start self.now.site.items) }
     {
         let name = job_name(&self.rt, &self.site, id, start)?;
-        Ok(format!(in self.rt.alloc(); "{}/{name}", self.jobs)?)
+        path_in(&self.rt, &self.jobs, &name)
     }
 
     // Writes what the shepherd reads.

@@ -3,7 +3,8 @@
 ghost use Rattle.std.specs.Prelude.{◌≡◌, None, IfOk};
 
 use crate::counted::counted;
-use crate::folder::{make_folder, name_text, request_text};
+use crate::folder::{make_folder, name_text, path_in};
+use crate::launcher::job_name;
 use crate::put::put_file;
 use crate::site::SiteHost;
 use nqs_base::Name;
@@ -38,9 +39,8 @@ impl FilePrinter {
     }
 
     fn put(&self, device: &Name, order: &LaunchOrder, bytes: &[u8]) -> io::Result<()> {
-        let device = name_text(device)?;
-        let request = request_text(&self.rt, &self.site, order.id)?;
-        let path = format!(in self.rt.alloc(); "{device}/{request}.{}", order.start)?;
+        let job = job_name(&self.rt, &self.site, order.id, order.start)?;
+        let path = path_in(&self.rt, name_text(device)?, &job)?;
         put_file(&self.rt, &self.folder, path.as_bytes(), bytes)
     }
 }

@@ -1,6 +1,6 @@
 //! Files that are whole or not there: written beside their place, synced, and then put there.
 
-use crate::folder::{make_private, sync_folder};
+use crate::folder::{make_private, path_in, sync_folder};
 use std::fs::{OpenOptions, rename};
 use std::io;
 use std::io::{ErrorKind, Write};
@@ -42,13 +42,13 @@ fn make_at(rt: &HostRuntime, folder: &str, path: &str, place: usize) -> io::Resu
     let Some(front) = folder_at(path, place) else {
         return Ok(());
     };
-    make_private(rt, &format!(in rt.alloc(); "{folder}/{front}")?)?;
+    make_private(rt, &path_in(rt, folder, front)?)?;
     Ok(())
 }
 
 fn sync_at(rt: &HostRuntime, folder: &str, path: &str, place: usize) -> io::Result<()> {
     match folder_at(path, place) {
-        Some(front) => sync_folder(rt, &format!(in rt.alloc(); "{folder}/{front}")?),
+        Some(front) => sync_folder(rt, &path_in(rt, folder, front)?),
         None => Ok(()),
     }
 }
@@ -75,7 +75,7 @@ fn folder_at(path: &str, place: usize) -> Option<&str> {
 }
 
 fn move_in(rt: &HostRuntime, folder: &str, path: &str, new: &str) -> io::Result<()> {
-    let place = format!(in rt.alloc(); "{folder}/{path}")?;
+    let place = path_in(rt, folder, path)?;
     rename(rt, new, &place)
 }
 

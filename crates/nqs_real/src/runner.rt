@@ -3,7 +3,7 @@
 ghost use Rattle.std.specs.Prelude.{◌≡◌, None, IfOk};
 
 use crate::counted::counted;
-use crate::folder::{host_text, jobs_path, make_folder, request_text};
+use crate::folder::{host_text, jobs_path, make_folder, path_in, request_text};
 use crate::launcher::job_name;
 use crate::leftovers::{end_job, put_mark};
 use crate::order::{JobOrder, read_order};
@@ -57,7 +57,7 @@ fn status_number(status: ExitStatus) -> u8 {
 }
 
 fn make_output(rt: &HostRuntime, place: &str, name: &str) -> io::Result<Stdio> {
-    let path = format!(in rt.alloc(); "{place}/{name}")?;
+    let path = path_in(rt, place, name)?;
     let file = OpenOptions::new()
         .write(true)
         .create_new(true)
@@ -67,7 +67,7 @@ fn make_output(rt: &HostRuntime, place: &str, name: &str) -> io::Result<Stdio> {
 }
 
 fn read_output(rt: &HostRuntime, place: &str, name: &str) -> io::Result<Bytes> {
-    let path = format!(in rt.alloc(); "{place}/{name}")?;
+    let path = path_in(rt, place, name)?;
     let mut bytes = Vec::new(rt.alloc());
     File::open(rt, &path)?.take(KEPT).read_to_end(&mut bytes)?;
     Ok(Bytes::from_vec(bytes))
@@ -153,7 +153,7 @@ impl ShellRunner {
 
     // The text of the job's order.
     fn read_text(&self, place: &str) -> io::Result<String> {
-        let path = format!(in self.rt.alloc(); "{place}/order")?;
+        let path = path_in(&self.rt, place, "order")?;
         fs::read_to_string(&self.rt, &path)
     }
 
@@ -227,7 +227,7 @@ impl ShellRunner {
     }
 
     fn watch(&self, child: &mut Child, place: &str) -> io::Result<ExitStatus> {
-        let kill = format!(in self.rt.alloc(); "{place}/kill")?;
+        let kill = path_in(&self.rt, place, "kill")?;
         self.watch_until(child, &kill)
     }
 
@@ -256,7 +256,7 @@ impl ShellRunner {
 
     fn job(&self, id: RequestId, start: u16) -> io::Result<RunEnd> {
         let name = job_name(&self.rt, &self.site, id, start)?;
-        let place = format!(in self.rt.alloc(); "{}/{name}", self.jobs)?;
+        let place = path_in(&self.rt, &self.jobs, &name)?;
         let end = self.run_in(&place, &name, id, start);
         let _ = fs::remove_dir_all(&self.rt, &place);
         end
