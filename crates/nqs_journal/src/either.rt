@@ -1,6 +1,6 @@
 //! The snapshot and the payloads that the bytes of a disk stand for, by either form of a journal.
 ghost use Rattle.std.specs.Prelude.{◌≡◌, ◌+◌, ◌<◌, ◌≤◌, ◌^◌, ◌++◌, ℕ, List, IsTrue, IsErrOf, OnOk, OnErr, IfOk, IfErr, length};
-ghost use Rattle.nqs_outside.specs.Causes.{Rose};
+ghost use Rattle.nqs_outside.specs.Reads.{FailedToRead, OnlyReads};
 ghost use Rattle.nqs_outside.specs.History.{content, moment, IsWhole};
 ghost use Rattle.nqs_journal.specs.Text.{records};
 ghost use Rattle.nqs_journal.specs.Either.{front_of, IsSnapshot, StandsBy};
@@ -73,17 +73,12 @@ pub(crate) fn add_journal<D: Disk>(
     ensures counted { IfOk result (λ told. length found.new.items ≡ length found.old.items + told.count) }
     ensures few { IfOk result (λ told. told.count ≤ told.gate) }
     ensures unchanged { OnErr result ((snapshot.new.items ≡ snapshot.old.items) × (found.new.items ≡ found.old.items)) }
-    ensures same { IsTrue D.tells → D.history disk.new ≡ D.history disk.old }
-    ensures later { D.faults disk.old ≤ D.faults disk.new }
     ensures fault { IsTrue D.tells → IfErr result (IsEitherLoadFault (content (D.history disk.old))) }
     ensures only { IfErr result IsReadingFault }
-    ensures failed { IsErrOf result JournalFault.Disk → Rose (D.faults disk.old) (D.faults disk.new) }
-    // Ok only where no call has ended the disk, `Disk` only after one that was to fail.
+    ensures failed { IsErrOf result JournalFault.Disk → FailedToRead D.Disk disk.old disk.new }
+    // Ok only where no call has ended the disk.
     ensures whole { IsTrue D.tells → OnOk result (IsWhole (D.ends disk.old) (moment (D.history disk.old))) }
-    ensures cause { IsTrue D.tells → IsErrOf result JournalFault.Disk → (i : ℕ) × (i < moment (D.history disk.old)) × IsTrue (D.fails disk.old i) }
-    ensures fuse { IsTrue D.tells → (i : ℕ) → D.fails disk.new i ≡ D.fails disk.old i }
-    ensures ends { IsTrue D.tells → (i : ℕ) → D.ends disk.new i ≡ D.ends disk.old i }
-    ensures starved { IsTrue D.tells → D.starved disk.new ≡ D.starved disk.old }
+    ensures reads { OnlyReads D.Disk disk.old disk.new }
 {
     let bytes = read_disk(alloc, disk)?;
     add_text(alloc, &bytes, snapshot, found)
@@ -107,17 +102,12 @@ pub fn read_either<D: Disk>(
         × (snapshot.new.items ≡ snapshot.old.items ++ front) × (found.new.items ≡ found.old.items ++ payloads)
         × (length (front_of has front ++ records payloads) ≤ 2 ^ 40)) }
     ensures unchanged { OnErr result ((snapshot.new.items ≡ snapshot.old.items) × (found.new.items ≡ found.old.items)) }
-    ensures same { IsTrue D.tells → D.history disk.new ≡ D.history disk.old }
-    ensures later { D.faults disk.old ≤ D.faults disk.new }
     ensures fault { IsTrue D.tells → IfErr result (IsEitherLoadFault (content (D.history disk.old))) }
     ensures only { IfErr result IsReadingFault }
-    ensures failed { IsErrOf result JournalFault.Disk → Rose (D.faults disk.old) (D.faults disk.new) }
-    // Ok only where no call has ended the disk, `Disk` only after one that was to fail.
+    ensures failed { IsErrOf result JournalFault.Disk → FailedToRead D.Disk disk.old disk.new }
+    // Ok only where no call has ended the disk.
     ensures whole { IsTrue D.tells → OnOk result (IsWhole (D.ends disk.old) (moment (D.history disk.old))) }
-    ensures cause { IsTrue D.tells → IsErrOf result JournalFault.Disk → (i : ℕ) × (i < moment (D.history disk.old)) × IsTrue (D.fails disk.old i) }
-    ensures fuse { IsTrue D.tells → (i : ℕ) → D.fails disk.new i ≡ D.fails disk.old i }
-    ensures ends { IsTrue D.tells → (i : ℕ) → D.ends disk.new i ≡ D.ends disk.old i }
-    ensures starved { IsTrue D.tells → D.starved disk.new ≡ D.starved disk.old }
+    ensures reads { OnlyReads D.Disk disk.old disk.new }
 {
     match add_journal(alloc, disk, snapshot, found) {
         Ok(told) => Ok(told.has_snapshot),

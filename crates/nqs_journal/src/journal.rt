@@ -2,6 +2,7 @@
 ghost use Rattle.std.specs.Prelude.{◌≡◌, ◌-◌, max, nat_le, IfOk, IfErr, ◌⊎◌, ◌↔◌, ◌+◌, ◌<◌, ◌≤◌, ◌^◌, ◌++◌, [], ◌∷◌, List, ℕ, IsTrue, Bool, IsErrOf, OnOk};
 ghost use Rattle.std.specs.Prelude.{OnErr, MatchResult, true, false, length, vec_capacity};
 ghost use Rattle.nqs_outside.specs.Causes.{Rose};
+ghost use Rattle.nqs_outside.specs.Reads.{FailedToRead, OnlyReads};
 ghost use Rattle.nqs_outside.specs.History.{Call, content, IsQuiet, extended, moment, state_at, MayLeave, EachSince, StopsShort, IsExact, IsWhole};
 ghost use Rattle.nqs_journal.specs.Text.{header, records, snapshot_front, StandsAfter, StandsFor};
 ghost use Rattle.nqs_journal.specs.Either.{front_of, IsSnapshot, IsSnapshotText, StandsBy};
@@ -151,25 +152,15 @@ impl<D: Disk> Journal<D> {
             × (found.new.items ≡ found.old.items ++ payloads)) }
         ensures small { OnOk result ((payloads : List (List ℕ)) × (found.new.items ≡ found.old.items ++ payloads)
             × (length (header ++ records payloads) ≤ 2 ^ 40)) }
-        ensures same { IsTrue D.tells → IfOk result (λ journal. history_of journal ≡ D.history disk) }
         ensures running { IfOk result (λ journal. is_stopped journal ≡ false) }
         ensures counted { IfOk result (λ journal. length found.new.items ≡ length found.old.items + count_of journal) }
         ensures unchanged { OnErr result (found.new.items ≡ found.old.items) }
-        ensures same_err { IsTrue D.tells → IfErr result (λ e. D.history e.1 ≡ D.history disk) }
         ensures fault { IsTrue D.tells → IfErr result (λ e. IsLoadFault (content (D.history disk)) e.0) }
         ensures only { IfErr result (λ e. IsReadingFault e.0) }
-        ensures failed { IfErr result (λ e. e.0 ≡ JournalFault.Disk → Rose (D.faults disk) (D.faults e.1)) }
-        // Ok only where no call has ended the disk, `Disk` only after one that was to fail.
+        ensures failed { IfErr result (λ e. e.0 ≡ JournalFault.Disk → FailedToRead D.Disk disk e.1) }
+        // Ok only where no call has ended the disk.
         ensures whole { IsTrue D.tells → OnOk result (IsWhole (D.ends disk) (moment (D.history disk))) }
-        ensures cause { IsTrue D.tells → IfErr result (λ e. e.0 ≡ JournalFault.Disk
-            → (i : ℕ) × (i < moment (D.history disk)) × IsTrue (D.fails disk i)) }
-        ensures fuse { IsTrue D.tells → (i : ℕ) → MatchResult result (λ journal. D.fails (disk_of journal) i ≡ D.fails disk i)
-            (λ e. D.fails e.1 i ≡ D.fails disk i) }
-        ensures ends { IsTrue D.tells → (i : ℕ) → MatchResult result (λ journal. D.ends (disk_of journal) i ≡ D.ends disk i)
-            (λ e. D.ends e.1 i ≡ D.ends disk i) }
-        ensures starved { IsTrue D.tells → MatchResult result (λ journal. D.starved (disk_of journal) ≡ D.starved disk)
-            (λ e. D.starved e.1 ≡ D.starved disk) }
-        ensures later { MatchResult result (λ journal. D.faults disk ≤ D.faults (disk_of journal)) (λ e. D.faults disk ≤ D.faults e.1) }
+        ensures reads { MatchResult result (λ journal. OnlyReads D.Disk disk (disk_of journal)) (λ e. OnlyReads D.Disk disk e.1) }
     {
         let mut disk = disk;
         let buffer = match Vec::with_capacity(alloc, ROOM) {
@@ -209,25 +200,15 @@ impl<D: Disk> Journal<D> {
         ensures small { IfOk result (λ told. (front : List ℕ) × (payloads : List (List ℕ)) × IsSnapshot told.1 front
             × (snapshot.new.items ≡ snapshot.old.items ++ front) × (found.new.items ≡ found.old.items ++ payloads)
             × (length (front_of told.1 front ++ records payloads) ≤ 2 ^ 40)) }
-        ensures same { IsTrue D.tells → IfOk result (λ told. history_of told.0 ≡ D.history disk) }
         ensures running { IfOk result (λ told. is_stopped told.0 ≡ false) }
         ensures counted { IfOk result (λ told. length found.new.items ≡ length found.old.items + count_of told.0) }
         ensures unchanged { OnErr result ((snapshot.new.items ≡ snapshot.old.items) × (found.new.items ≡ found.old.items)) }
-        ensures same_err { IsTrue D.tells → IfErr result (λ e. D.history e.1 ≡ D.history disk) }
         ensures fault { IsTrue D.tells → IfErr result (λ e. IsEitherLoadFault (content (D.history disk)) e.0) }
         ensures only { IfErr result (λ e. IsReadingFault e.0) }
-        ensures failed { IfErr result (λ e. e.0 ≡ JournalFault.Disk → Rose (D.faults disk) (D.faults e.1)) }
-        // Ok only where no call has ended the disk, `Disk` only after one that was to fail.
+        ensures failed { IfErr result (λ e. e.0 ≡ JournalFault.Disk → FailedToRead D.Disk disk e.1) }
+        // Ok only where no call has ended the disk.
         ensures whole { IsTrue D.tells → OnOk result (IsWhole (D.ends disk) (moment (D.history disk))) }
-        ensures cause { IsTrue D.tells → IfErr result (λ e. e.0 ≡ JournalFault.Disk
-            → (i : ℕ) × (i < moment (D.history disk)) × IsTrue (D.fails disk i)) }
-        ensures fuse { IsTrue D.tells → (i : ℕ) → MatchResult result (λ told. D.fails (disk_of told.0) i ≡ D.fails disk i)
-            (λ e. D.fails e.1 i ≡ D.fails disk i) }
-        ensures ends { IsTrue D.tells → (i : ℕ) → MatchResult result (λ told. D.ends (disk_of told.0) i ≡ D.ends disk i)
-            (λ e. D.ends e.1 i ≡ D.ends disk i) }
-        ensures starved { IsTrue D.tells → MatchResult result (λ told. D.starved (disk_of told.0) ≡ D.starved disk)
-            (λ e. D.starved e.1 ≡ D.starved disk) }
-        ensures later { MatchResult result (λ told. D.faults disk ≤ D.faults (disk_of told.0)) (λ e. D.faults disk ≤ D.faults e.1) }
+        ensures reads { MatchResult result (λ told. OnlyReads D.Disk disk (disk_of told.0)) (λ e. OnlyReads D.Disk disk e.1) }
     {
         let mut disk = disk;
         let buffer = match Vec::with_capacity(alloc, ROOM) {
@@ -369,19 +350,13 @@ impl<D: Disk> Journal<D> {
         ensures small { OnOk result ((payloads : List (List ℕ)) × (found.new.items ≡ found.old.items ++ payloads)
             × (length (header ++ records payloads) ≤ 2 ^ 40)) }
         ensures unchanged { OnErr result (found.new.items ≡ found.old.items) }
-        ensures same { IsTrue D.tells → history_of self.new ≡ history_of self.old }
         ensures tells { IsTrue D.tells → (front : List ℕ) (payloads : List (List ℕ)) → Tells self.old front payloads → Tells self.new front payloads }
-        ensures later { D.faults (disk_of self.old) ≤ D.faults (disk_of self.new) }
         ensures fault { IsTrue D.tells → IfErr result (IsLoadFault (content (history_of self.old))) }
         ensures only { IfErr result IsReadingFault }
-        ensures failed { IsErrOf result JournalFault.Disk → Rose (D.faults (disk_of self.old)) (D.faults (disk_of self.new)) }
-        // Ok only where no call has ended the disk, `Disk` only after one that was to fail.
+        ensures failed { IsErrOf result JournalFault.Disk → FailedToRead D.Disk (disk_of self.old) (disk_of self.new) }
+        // Ok only where no call has ended the disk.
         ensures whole { IsTrue D.tells → OnOk result (IsWhole (D.ends (disk_of self.old)) (moment (history_of self.old))) }
-        ensures cause { IsTrue D.tells → IsErrOf result JournalFault.Disk
-            → (i : ℕ) × (i < moment (history_of self.old)) × IsTrue (D.fails (disk_of self.old) i) }
-        ensures fuse { IsTrue D.tells → (i : ℕ) → D.fails (disk_of self.new) i ≡ D.fails (disk_of self.old) i }
-        ensures ends { IsTrue D.tells → (i : ℕ) → D.ends (disk_of self.new) i ≡ D.ends (disk_of self.old) i }
-        ensures starved { IsTrue D.tells → D.starved (disk_of self.new) ≡ D.starved (disk_of self.old) }
+        ensures reads { OnlyReads D.Disk (disk_of self.old) (disk_of self.new) }
         ensures stays { (gate_of self.new ≡ gate_of self.old) × (is_stopped self.new ≡ is_stopped self.old) }
         ensures counted { count_of self.new ≡ count_of self.old }
     {
@@ -406,19 +381,13 @@ impl<D: Disk> Journal<D> {
             × (snapshot.new.items ≡ snapshot.old.items ++ front) × (found.new.items ≡ found.old.items ++ payloads)
             × (length (front_of has front ++ records payloads) ≤ 2 ^ 40)) }
         ensures unchanged { OnErr result ((snapshot.new.items ≡ snapshot.old.items) × (found.new.items ≡ found.old.items)) }
-        ensures same { IsTrue D.tells → history_of self.new ≡ history_of self.old }
         ensures tells { IsTrue D.tells → (front : List ℕ) (payloads : List (List ℕ)) → Tells self.old front payloads → Tells self.new front payloads }
-        ensures later { D.faults (disk_of self.old) ≤ D.faults (disk_of self.new) }
         ensures fault { IsTrue D.tells → IfErr result (IsEitherLoadFault (content (history_of self.old))) }
         ensures only { IfErr result IsReadingFault }
-        ensures failed { IsErrOf result JournalFault.Disk → Rose (D.faults (disk_of self.old)) (D.faults (disk_of self.new)) }
-        // Ok only where no call has ended the disk, `Disk` only after one that was to fail.
+        ensures failed { IsErrOf result JournalFault.Disk → FailedToRead D.Disk (disk_of self.old) (disk_of self.new) }
+        // Ok only where no call has ended the disk.
         ensures whole { IsTrue D.tells → OnOk result (IsWhole (D.ends (disk_of self.old)) (moment (history_of self.old))) }
-        ensures cause { IsTrue D.tells → IsErrOf result JournalFault.Disk
-            → (i : ℕ) × (i < moment (history_of self.old)) × IsTrue (D.fails (disk_of self.old) i) }
-        ensures fuse { IsTrue D.tells → (i : ℕ) → D.fails (disk_of self.new) i ≡ D.fails (disk_of self.old) i }
-        ensures ends { IsTrue D.tells → (i : ℕ) → D.ends (disk_of self.new) i ≡ D.ends (disk_of self.old) i }
-        ensures starved { IsTrue D.tells → D.starved (disk_of self.new) ≡ D.starved (disk_of self.old) }
+        ensures reads { OnlyReads D.Disk (disk_of self.old) (disk_of self.new) }
         ensures stays { (gate_of self.new ≡ gate_of self.old) × (is_stopped self.new ≡ is_stopped self.old) }
         ensures counted { count_of self.new ≡ count_of self.old }
     {

@@ -1,6 +1,6 @@
 //! The payloads that the bytes of a disk stand for.
 ghost use Rattle.std.specs.Prelude.{[], ◌≡◌, ◌+◌, ◌<◌, ◌≤◌, ◌^◌, ◌++◌, ℕ, List, IsTrue, IsErrOf, OnOk, OnErr, IfOk, IfErr, length, vec_len, MatchResult};
-ghost use Rattle.nqs_outside.specs.Causes.{Rose};
+ghost use Rattle.nqs_outside.specs.Reads.{FailedToRead, OnlyReads};
 ghost use Rattle.nqs_outside.specs.History.{content, moment, IsWhole};
 ghost use Rattle.nqs_journal.specs.Text.{header, records, StandsFor};
 ghost use Rattle.nqs_journal.specs.Faults.{IsDiskFault, IsLoadFault, IsReadingFault};
@@ -25,16 +25,11 @@ impl From<Failed> for JournalFault {
 pub(crate) fn read_disk<D: Disk>(alloc: Global, disk: &mut D) -> Result<Vec<u8>, JournalFault>
     ensures bytes { IsTrue D.tells → IfOk result (λ bytes. bytes.items ≡ content (D.history disk.old)) }
     ensures small { IfOk result (λ bytes. vec_len bytes ≤ 2 ^ 40) }
-    ensures same { IsTrue D.tells → D.history disk.new ≡ D.history disk.old }
-    ensures later { D.faults disk.old ≤ D.faults disk.new }
     ensures fault { IfErr result IsDiskFault }
-    ensures failed { IsErrOf result JournalFault.Disk → Rose (D.faults disk.old) (D.faults disk.new) }
-    // Ok only where no call has ended the disk, `Disk` only after one that was to fail.
+    ensures failed { IsErrOf result JournalFault.Disk → FailedToRead D.Disk disk.old disk.new }
+    // Ok only where no call has ended the disk.
     ensures whole { IsTrue D.tells → OnOk result (IsWhole (D.ends disk.old) (moment (D.history disk.old))) }
-    ensures cause { IsTrue D.tells → IsErrOf result JournalFault.Disk → (i : ℕ) × (i < moment (D.history disk.old)) × IsTrue (D.fails disk.old i) }
-    ensures fuse { IsTrue D.tells → (i : ℕ) → D.fails disk.new i ≡ D.fails disk.old i }
-    ensures ends { IsTrue D.tells → (i : ℕ) → D.ends disk.new i ≡ D.ends disk.old i }
-    ensures starved { IsTrue D.tells → D.starved disk.new ≡ D.starved disk.old }
+    ensures reads { OnlyReads D.Disk disk.old disk.new }
 {
     let length = disk.len()?;
     let mut bytes = vec![in alloc; 0; length as usize]?;
@@ -48,17 +43,12 @@ pub(crate) fn read_journal<D: Disk>(alloc: Global, disk: &mut D) -> Result<Readi
     ensures stands { IsTrue D.tells → IfOk result (λ found. StandsFor (content (D.history disk.old)) found.payloads.items) }
     ensures gate { IfOk result (λ found. found.gate ≡ length (header ++ records found.payloads.items)) }
     ensures small { IfOk result (λ found. found.gate ≤ 2 ^ 40) }
-    ensures same { IsTrue D.tells → D.history disk.new ≡ D.history disk.old }
-    ensures later { D.faults disk.old ≤ D.faults disk.new }
     ensures fault { IsTrue D.tells → IfErr result (IsLoadFault (content (D.history disk.old))) }
     ensures only { IfErr result IsReadingFault }
-    ensures failed { IsErrOf result JournalFault.Disk → Rose (D.faults disk.old) (D.faults disk.new) }
-    // Ok only where no call has ended the disk, `Disk` only after one that was to fail.
+    ensures failed { IsErrOf result JournalFault.Disk → FailedToRead D.Disk disk.old disk.new }
+    // Ok only where no call has ended the disk.
     ensures whole { IsTrue D.tells → OnOk result (IsWhole (D.ends disk.old) (moment (D.history disk.old))) }
-    ensures cause { IsTrue D.tells → IsErrOf result JournalFault.Disk → (i : ℕ) × (i < moment (D.history disk.old)) × IsTrue (D.fails disk.old i) }
-    ensures fuse { IsTrue D.tells → (i : ℕ) → D.fails disk.new i ≡ D.fails disk.old i }
-    ensures ends { IsTrue D.tells → (i : ℕ) → D.ends disk.new i ≡ D.ends disk.old i }
-    ensures starved { IsTrue D.tells → D.starved disk.new ≡ D.starved disk.old }
+    ensures reads { OnlyReads D.Disk disk.old disk.new }
 {
     let bytes = read_disk(alloc, disk)?;
     read_text(alloc, &bytes)
@@ -75,17 +65,12 @@ pub fn read_payloads<D: Disk>(
     ensures small { OnOk result ((payloads : List (List ℕ)) × (found.new.items ≡ found.old.items ++ payloads)
         × (length (header ++ records payloads) ≤ 2 ^ 40)) }
     ensures unchanged { OnErr result (found.new.items ≡ found.old.items) }
-    ensures same { IsTrue D.tells → D.history disk.new ≡ D.history disk.old }
-    ensures later { D.faults disk.old ≤ D.faults disk.new }
     ensures fault { IsTrue D.tells → IfErr result (IsLoadFault (content (D.history disk.old))) }
     ensures only { IfErr result IsReadingFault }
-    ensures failed { IsErrOf result JournalFault.Disk → Rose (D.faults disk.old) (D.faults disk.new) }
-    // Ok only where no call has ended the disk, `Disk` only after one that was to fail.
+    ensures failed { IsErrOf result JournalFault.Disk → FailedToRead D.Disk disk.old disk.new }
+    // Ok only where no call has ended the disk.
     ensures whole { IsTrue D.tells → OnOk result (IsWhole (D.ends disk.old) (moment (D.history disk.old))) }
-    ensures cause { IsTrue D.tells → IsErrOf result JournalFault.Disk → (i : ℕ) × (i < moment (D.history disk.old)) × IsTrue (D.fails disk.old i) }
-    ensures fuse { IsTrue D.tells → (i : ℕ) → D.fails disk.new i ≡ D.fails disk.old i }
-    ensures ends { IsTrue D.tells → (i : ℕ) → D.ends disk.new i ≡ D.ends disk.old i }
-    ensures starved { IsTrue D.tells → D.starved disk.new ≡ D.starved disk.old }
+    ensures reads { OnlyReads D.Disk disk.old disk.new }
 {
     let mut reading = read_journal(alloc, disk)?;
     found.append(&mut reading.payloads)?;

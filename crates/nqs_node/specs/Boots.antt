@@ -1,10 +1,9 @@
 -- What a boot of a host leaves: a node, or the disks that came back.
-use Rattle.std.specs.Prelude.{◌≡◌, ◌⊎◌, ◌≤◌, ℕ, Bool, false, IsTrue, Ok, Some}
+use Rattle.std.specs.Prelude.{◌≡◌, ◌⊎◌, ◌≤◌, ℕ, false, IsTrue, Ok, Some}
 use Rattle.nqs_base.specs.Want.{want}
 use Rattle.nqs_types.specs.declared.change.Change.TheVariants.{Boot}
 use Rattle.nqs_types.specs.declared.world.Which.{Which}
 use Rattle.nqs_outside.specs.Causes.{Rose}
-use Rattle.nqs_outside.specs.History.{History}
 use Rattle.nqs_outside.specs.declared.disk.Disk as disk
 use Rattle.nqs_rules.specs.Applied.{applied}
 use Rattle.nqs_state.specs.State.{Plain}
@@ -54,33 +53,33 @@ module _ {D : Type 0} {g : disk.Ghosts D} (old : Disks D) where
         → (a : Active) → IsActive (contents (histories_of g.history old)) a
         → IsOneOrOther a (histories_of g.history old) (history_of node) (Some Boot) s
 
-module _ {D : Type 0} (tells : Bool) (history : D → History) (fails : D → ℕ → Bool) (starved : D → Bool) (faults : D → ℕ) (old : Disks D) where
+module _ {D : Type 0} (g : disk.Ghosts D) (old : Disks D) where
   -- Nothing was booted, and the disks came back.
   pub record Unbooted (cause : LoadFault) (now : Disks D) : Type 0 where
     -- a failed call of a disk was counted by that disk
-    pub failed : (which : Which) → cause ≡ load.Disk which → Rose (faults (disk_at which old)) (faults (disk_at which now))
+    pub failed : (which : Which) → cause ≡ load.Disk which → Rose (g.faults (disk_at which old)) (g.faults (disk_at which now))
     -- bytes that are refused are at fault there
-    pub fault : IsTrue tells → (which : Which) (place : ℕ) → cause ≡ load.NotNqs which place → IsLoadFault (contents (histories_of history old)) cause
+    pub fault : IsTrue g.tells → (which : Which) (place : ℕ) → cause ≡ load.NotNqs which place → IsLoadFault (contents (histories_of g.history old)) cause
     -- those that tell a state are not refused
-    pub never : IsTrue tells → (s : Plain) → IsTold (contents (histories_of history old)) s → (which : Which) (place : ℕ) → cause ≡ load.NotNqs which place
+    pub never : IsTrue g.tells → (s : Plain) → IsTold (contents (histories_of g.history old)) s → (which : Which) (place : ℕ) → cause ≡ load.NotNqs which place
         → ⊥
     -- want of memory comes before the first call
-    pub memory : IsTrue tells → cause ≡ load.Memory want → (which : Which) → histories_of history now which ≡ histories_of history old which
+    pub memory : IsTrue g.tells → cause ≡ load.Memory want → (which : Which) → histories_of g.history now which ≡ histories_of g.history old which
     -- a part of its calls was made, of which only the last may have failed
-    pub broken_off : IsTrue tells → (a : Active) → IsActive (contents (histories_of history old)) a
-        → IsBrokenOff a (histories_of history old) (histories_of history now) (Some Boot)
+    pub broken_off : IsTrue g.tells → (a : Active) → IsActive (contents (histories_of g.history old)) a
+        → IsBrokenOff a (histories_of g.history old) (histories_of g.history now) (Some Boot)
     -- disks that name no journal are left as they are
-    pub untouched : IsTrue tells → ((a : Active) → IsActive (contents (histories_of history old)) a → ⊥) → (which : Which)
-        → histories_of history now which ≡ histories_of history old which
+    pub untouched : IsTrue g.tells → ((a : Active) → IsActive (contents (histories_of g.history old)) a → ⊥) → (which : Which)
+        → histories_of g.history now which ≡ histories_of g.history old which
     -- which of them failed is the disk's to say, unless it is starved
-    pub cut : IsTrue tells → (s : Plain) → IsTold (contents (histories_of history old)) s
-        → (a : Active) → IsActive (contents (histories_of history old)) a → (which : Which) → cause ≡ load.Disk which
-        → IsTrue (starved (disk_at which now)) ⊎ (IsBlown (failing_of fails old which) (histories_of history old which)
-        ⊎ IsCutBy a (failing_of fails old) (histories_of history old) (histories_of history now) (Some Boot) s which)
+    pub cut : IsTrue g.tells → (s : Plain) → IsTold (contents (histories_of g.history old)) s
+        → (a : Active) → IsActive (contents (histories_of g.history old)) a → (which : Which) → cause ≡ load.Disk which
+        → IsTrue (g.starved (disk_at which now)) ⊎ (IsBlown (failing_of g.fails old which) (histories_of g.history old which)
+        ⊎ IsCutBy a (failing_of g.fails old) (histories_of g.history old) (histories_of g.history now) (Some Boot) s which)
     -- no disk's count of faults falls
-    pub later : (which : Which) → faults (disk_at which old) ≤ faults (disk_at which now)
+    pub later : (which : Which) → g.faults (disk_at which old) ≤ g.faults (disk_at which now)
     -- at each moment, whatever images the disks may leave, they tell the state before the boot or
     -- the one after it
-    pub any_moment : IsTrue tells → (s : Plain) → IsTold (contents (histories_of history old)) s
-        → (a : Active) → IsActive (contents (histories_of history old)) a
-        → IsOneOrOther a (histories_of history old) (histories_of history now) (Some Boot) s
+    pub any_moment : IsTrue g.tells → (s : Plain) → IsTold (contents (histories_of g.history old)) s
+        → (a : Active) → IsActive (contents (histories_of g.history old)) a
+        → IsOneOrOther a (histories_of g.history old) (histories_of g.history now) (Some Boot) s

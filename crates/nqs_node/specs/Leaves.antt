@@ -1,5 +1,5 @@
 -- What a call of a node leaves that takes a step: of the node, and of what it said.
-use Rattle.std.specs.Prelude.{◌≡◌, ◌⊎◌, ◌↔◌, ◌≤◌, ◌++◌, ℕ, false, List, [], IsTrue, OnOk, OnErr, IsErrOf, map}
+use Rattle.std.specs.Prelude.{◌≡◌, ◌⊎◌, ◌↔◌, ◌++◌, ℕ, List, [], IsTrue, OnOk, OnErr, IsErrOf, map}
 use Rattle.std.specs.Global.{Vec}
 use Rattle.std.specs.Option.{option_map}
 use Rattle.std.specs.declared.result.Result.{Result}
@@ -8,11 +8,11 @@ use Rattle.nqs_base.specs.Want.{want}
 use Rattle.nqs_types.specs.declared.event.Output.{Output}
 use Rattle.nqs_types.specs.declared.event.Plan.{Plan}
 use Rattle.nqs_types.specs.declared.world.Which.{Which}
-use Rattle.nqs_outside.specs.Causes.{Rose}
 use Rattle.nqs_outside.specs.declared.disk.Disk as disk
 use Rattle.nqs_rules.specs.Starts.{after_change, after_step}
 use Rattle.nqs_rules.specs.Stepped.{Stepped, shown}
 use Rattle.nqs_store.specs.Sound.{IsSoundHost}
+use Rattle.nqs_store.specs.Stops.{StopsBy}
 use Rattle.nqs_back.specs.Bare.{emptied, blank, without_bytes}
 use Rattle.nqs_node.specs.Carried.{after_kept, IsMade, IsCutBy, IsBrokenOff, IsOneOrOther, IsBlown}
 use Rattle.nqs_node.specs.Nodes as nodes
@@ -24,16 +24,8 @@ use Rattle.nqs_node.specs.declared.node.Node.{Node}
 
 module _ {D : Type 0} {g : disk.Ghosts D} {T : Type 0} (old now : Node D g) where
   -- what a call that may stop the node leaves of its disks
-  pub record MayStop (result : Result T NodeFault) : Type 0 where
-    -- at Ok it isn't stopped
-    pub running : OnOk result (nodes.is_stopped now ≡ false)
-    -- a failed call of a disk stops it, and was counted by that disk
-    pub broken : (which : Which) → IsErrOf result (node.Disk which)
-        → IsTrue (nodes.is_stopped now) × Rose (g.faults (nodes.disk_of which old)) (g.faults (nodes.disk_of which now))
-    -- no disk's count of faults falls
-    pub later : (which : Which) → g.faults (nodes.disk_of which old) ≤ g.faults (nodes.disk_of which now)
-    -- which calls are to fail stays
-    pub fuse : IsTrue g.tells → (which : Which) (i : ℕ) → nodes.fails_of now which i ≡ nodes.fails_of old which i
+  abbrev pub MayStop : Result T NodeFault → Type 0
+  MayStop = StopsBy g (nodes.is_stopped now) (λ which. nodes.disk_of which old) (λ which. nodes.disk_of which now) node.Disk
 
   -- what a call leaves, whatever it was to do: a fault says nothing and makes no change
   pub record Leaves (said says : Vec Output) (result : Result T NodeFault) : Type 0 where

@@ -119,7 +119,7 @@ impl<D: Disk> Node<D> {
             → OnOk result (out.new.items ≡ out.old.items ++ filter_map boot_output s.rows) }
         ensures booted { (disks : Disks D) → IsLoaded disks store state → IfOk result (Booted disks) }
         ensures unbooted { (disks : Disks D) → IsLoaded disks store state
-            → IfErr result (λ e. Unbooted D.tells D.history D.fails D.starved D.faults disks e.0 e.1) }
+            → IfErr result (λ e. Unbooted D.Disk disks e.0 e.1) }
     {
         one_journal_is_active();
         match begin(alloc, &mut store, &mut state, out) {
@@ -144,7 +144,7 @@ impl<D: Disk> Node<D> {
         ensures outputs { IsTrue D.tells → (s : Plain) → IsTold (contents (histories_of D.history disks)) s
             → OnOk result (out.new.items ≡ out.old.items ++ filter_map boot_output s.rows) }
         ensures booted { IfOk result (Booted disks) }
-        ensures unbooted { IfErr result (λ e. Unbooted D.tells D.history D.fails D.starved D.faults disks e.0 e.1) }
+        ensures unbooted { IfErr result (λ e. Unbooted D.Disk disks e.0 e.1) }
     {
         match Store::load(alloc, disks) {
             Err((fault, disks)) => Err((fault, disks)),

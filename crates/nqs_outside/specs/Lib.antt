@@ -4,3 +4,4 @@ pub mod Memory
 pub mod Told
 pub mod Asked
 pub mod Streams
+pub mod Reads

@@ -5,6 +5,7 @@ ghost use Rattle.std.specs.List.{AllByRecursion};
 ghost use Rattle.nqs_base.specs.declared.extent.Extent.{Extent};
 ghost use Rattle.nqs_base.specs.Want.{want};
 ghost use Rattle.nqs_outside.specs.Causes.{Rose};
+ghost use Rattle.nqs_outside.specs.Reads.{FailedToRead, OnlyReads};
 ghost use Rattle.nqs_outside.specs.History.{Call, content, IsQuiet, extended, moment, EachSince, StopsShort, IsExact, IsWhole};
 ghost use Rattle.nqs_spool.specs.Puts.{put_calls};
 ghost use Rattle.nqs_spool.specs.Extents.{extent_at, past, AreApart, IsLeastPlace, Has, IsWith, Holds, Covers};
@@ -74,13 +75,8 @@ impl<D: Disk> Spool<D> {
         ensures length { IsTrue D.tells → IfOk result (λ length_now. length_now ≡ length (content (history_of self.old))) }
         ensures small { IfOk result (λ length_now. length_now ≤ 2 ^ 40) }
         ensures fault { IfErr result (λ fault. fault ≡ SpoolFault.Disk) }
-        ensures failed { OnErr result (Rose (D.faults (disk_of self.old)) (D.faults (disk_of self.new))) }
-        // Only after a call that was to fail.
-        ensures cause { IsTrue D.tells → IsErrOf result SpoolFault.Disk → (i : ℕ) × (i < moment (history_of self.old)) × IsTrue (D.fails (disk_of self.old) i) }
-        ensures later { D.faults (disk_of self.old) ≤ D.faults (disk_of self.new) }
-        ensures same { IsTrue D.tells → history_of self.new ≡ history_of self.old }
-        ensures fuse { IsTrue D.tells → (i : ℕ) → D.fails (disk_of self.new) i ≡ D.fails (disk_of self.old) i }
-        ensures starved { IsTrue D.tells → D.starved (disk_of self.new) ≡ D.starved (disk_of self.old) }
+        ensures failed { OnErr result (FailedToRead D.Disk (disk_of self.old) (disk_of self.new)) }
+        ensures reads { OnlyReads D.Disk (disk_of self.old) (disk_of self.new) }
         ensures tells { (live : List Extent) → Tells self.old live → Tells self.new live }
         ensures room { room_of self.new ≡ room_of self.old }
     {
@@ -168,14 +164,9 @@ impl<D: Disk> Spool<D> {
         // Whatever the disk is, it gives no more bytes than the extent has.
         ensures few { length out.new.items ≤ length out.old.items + extent.now.length }
         ensures memory { IsErrOf result (SpoolFault.Memory want) → vec_capacity out.old < length out.old.items + extent.now.length }
-        ensures disk { IsErrOf result SpoolFault.Disk → Rose (D.faults (disk_of self.old)) (D.faults (disk_of self.new)) }
-        // Only after a call that was to fail.
-        ensures cause { IsTrue D.tells → IsErrOf result SpoolFault.Disk → (i : ℕ) × (i < moment (history_of self.old)) × IsTrue (D.fails (disk_of self.old) i) }
+        ensures failed { IsErrOf result SpoolFault.Disk → FailedToRead D.Disk (disk_of self.old) (disk_of self.new) }
         ensures fault { IfErr result (λ fault. (fault ≡ SpoolFault.Disk) ⊎ (fault ≡ SpoolFault.Memory want)) }
-        ensures later { D.faults (disk_of self.old) ≤ D.faults (disk_of self.new) }
-        ensures same { IsTrue D.tells → history_of self.new ≡ history_of self.old }
-        ensures fuse { IsTrue D.tells → (i : ℕ) → D.fails (disk_of self.new) i ≡ D.fails (disk_of self.old) i }
-        ensures starved { IsTrue D.tells → D.starved (disk_of self.new) ≡ D.starved (disk_of self.old) }
+        ensures reads { OnlyReads D.Disk (disk_of self.old) (disk_of self.new) }
         ensures tells { (live : List Extent) → Tells self.old live → Tells self.new live }
         ensures room { room_of self.new ≡ room_of self.old }
     {

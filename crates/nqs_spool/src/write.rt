@@ -2,6 +2,7 @@
 ghost use Rattle.std.specs.Prelude.{◌≡◌, ◌⊎◌, ℕ, ◌+◌, ◌<◌, ◌≤◌, ◌^◌, ◌++◌, [], ◌∷◌, List, false, IsTrue, IsErrOf, OnOk, OnErr, IfErr, length, take, drop};
 ghost use Rattle.std.specs.Prelude.{vec_capacity};
 ghost use Rattle.nqs_outside.specs.Causes.{Rose};
+ghost use Rattle.nqs_outside.specs.Reads.{FailedToRead, OnlyReads};
 ghost use Rattle.nqs_outside.specs.History.{Call, content, extended, moment, StopsShort, IsExact};
 ghost use Rattle.nqs_spool.specs.Puts.{written_through};
 ghost use Rattle.nqs_base.specs.Want.{want};
@@ -40,13 +41,8 @@ pub(crate) fn append_read<D: Disk>(
     ensures few { length out.new.items ≤ length out.old.items + count }
     ensures memory { IsErrOf result (SpoolFault.Memory want) → vec_capacity out.old < length out.old.items + count }
     ensures fault { IfErr result (λ e. (e ≡ SpoolFault.Disk) ⊎ (e ≡ SpoolFault.Memory want)) }
-    ensures failed { IsErrOf result SpoolFault.Disk → Rose (D.faults disk.old) (D.faults disk.new) }
-    // Only after a call that was to fail.
-    ensures cause { IsTrue D.tells → IsErrOf result SpoolFault.Disk → (i : ℕ) × (i < moment (D.history disk.old)) × IsTrue (D.fails disk.old i) }
-    ensures later { D.faults disk.old ≤ D.faults disk.new }
-    ensures same { IsTrue D.tells → D.history disk.new ≡ D.history disk.old }
-    ensures fuse { IsTrue D.tells → (i : ℕ) → D.fails disk.new i ≡ D.fails disk.old i }
-    ensures starved { IsTrue D.tells → D.starved disk.new ≡ D.starved disk.old }
+    ensures failed { IsErrOf result SpoolFault.Disk → FailedToRead D.Disk disk.old disk.new }
+    ensures reads { OnlyReads D.Disk disk.old disk.new }
 {
     let start = out.len();
     out.resize(start + count as usize, 0)?;

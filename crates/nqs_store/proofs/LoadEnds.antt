@@ -6,6 +6,7 @@ use Rattle.nqs_base.specs.Want.{want}
 use Rattle.nqs_types.specs.declared.world.Which.{Which}
 use Rattle.nqs_types.specs.declared.world.Which.TheVariants.{Root, Spool}
 use Rattle.nqs_outside.specs.History.{IsQuiet, content as bytes_now}
+use Rattle.nqs_outside.specs.Reads as one
 use Rattle.nqs_outside.specs.declared.disk.Disk as disk
 use Rattle.nqs_journal.specs.Open as journals
 use Rattle.nqs_spool.specs.Spooled as spools
@@ -16,7 +17,7 @@ use Rattle.nqs_store.specs.Disks.{disk_at, histories_of, contents}
 use Rattle.nqs_store.specs.Images.{IsToldHost}
 use Rattle.nqs_store.specs.Opens.{AreOpened, OpensOn, Loads}
 use Rattle.nqs_store.specs.Faults.{IsBytesFault, IsLoadFault}
-use Rattle.nqs_store.specs.Reads.{OnlyReads, FailedToRead, OnlyReadsOne, OneFailedToRead}
+use Rattle.nqs_store.specs.Reads.{OnlyReads, FailedToRead}
 use Rattle.nqs_store.specs.Stores.{disk_of, history_of, journal_in, active_of, Tells}
 use Rattle.nqs_store.specs.declared.disks.Disks.{Disks}
 use Rattle.nqs_store.specs.declared.fault.LoadFault.{LoadFault}
@@ -27,7 +28,7 @@ use Rattle.nqs_store.proofs.Never.{one_told, load_not}
 use Rattle.nqs_store.proofs.Opening.{read_fault, one_same, each_reads, failed_at, opened_tells, tells_read, tells_active}
 
 module _ {D : Type 0} (g : disk.Ghosts D) (disks : Disks D) (root : D)
-    (read : OnlyReadsOne g.tells g.history g.fails g.starved g.faults disks.root root) (b : Bool) where
+    (read : one.OnlyReads g disks.root root) (b : Bool) where
   abbrev Answer : Type 0
   Answer = Result (Store D g × HostState) (LoadFault × Disks D)
 
@@ -35,10 +36,10 @@ module _ {D : Type 0} (g : disk.Ghosts D) (disks : Disks D) (root : D)
   bytes = contents (histories_of g.history disks)
 
   abbrev One : D → D → Type 0
-  One old now = OnlyReadsOne g.tells g.history g.fails g.starved g.faults old now
+  One old now = one.OnlyReads g old now
 
   abbrev OneFailed : D → D → Type 0
-  OneFailed old now = OneFailedToRead g.tells g.history g.fails g.faults old now
+  OneFailed old now = one.FailedToRead g old now
 
   -- the root that was read is the answer's
   abbrev Roots : Answer → Type 0
@@ -59,29 +60,29 @@ module _ {D : Type 0} (g : disk.Ghosts D) (disks : Disks D) (root : D)
   Spools r = MatchResult r (λ x. One disks.spool (spools.disk_of x.0.spool)) (λ e. One disks.spool e.1.spool)
 
   reads_end : (r : Answer) → Roots r → Actives r → Rests r → Spools r
-      → MatchResult r (λ x. OnlyReads g.tells g.history g.fails g.starved g.faults (λ at. disk_at at disks) (λ at. disk_of at x.0))
-      (λ e. OnlyReads g.tells g.history g.fails g.starved g.faults (λ at. disk_at at disks) (λ at. disk_at at e.1))
+      → MatchResult r (λ x. OnlyReads g (λ at. disk_at at disks) (λ at. disk_of at x.0))
+      (λ e. OnlyReads g (λ at. disk_at at disks) (λ at. disk_at at e.1))
   reads_end (Ok x) is active rests spool =
-      each_reads g.tells g.history g.fails g.starved g.faults (λ at. disk_at at disks) (λ at. disk_of at x.0)
+      each_reads g (λ at. disk_at at disks) (λ at. disk_of at x.0)
       (each_of b (λ w. One (disk_at w disks) (disk_of w x.0)) (subst (One disks.root) (sym is) read)
       (subst (One (disk_at (journal_on b) disks)) (sym (stands_on b x.0)) active)
-      (one_same g.tells g.history g.fails g.starved g.faults (disk_at (journal_on (not b)) disks) (disk_of (journal_on (not b)) x.0)
+      (one_same g (disk_at (journal_on (not b)) disks) (disk_of (journal_on (not b)) x.0)
       (stands_on (not b) x.0 ∙ rests)) spool)
   reads_end (Err e) is active rests spool =
-      each_reads g.tells g.history g.fails g.starved g.faults (λ at. disk_at at disks) (λ at. disk_at at e.1)
+      each_reads g (λ at. disk_at at disks) (λ at. disk_at at e.1)
       (each_of b (λ w. One (disk_at w disks) (disk_at w e.1)) (subst (One disks.root) (sym is) read) active
-      (one_same g.tells g.history g.fails g.starved g.faults (disk_at (journal_on (not b)) disks) (disk_at (journal_on (not b)) e.1) rests) spool)
+      (one_same g (disk_at (journal_on (not b)) disks) (disk_at (journal_on (not b)) e.1) rests) spool)
 
   failed_end : (r : Answer)
       → IfErr r (λ e. (which : Which) → e.0 ≡ load.Disk which
       → ((which ≡ journal_on b) × OneFailed (disk_at (journal_on b) disks) (disk_at (journal_on b) e.1))
       ⊎ ((which ≡ Spool) × OneFailed disks.spool e.1.spool))
       → IfErr r (λ e. (which : Which) → e.0 ≡ load.Disk which
-      → FailedToRead g.tells g.history g.fails g.faults (λ at. disk_at at disks) (λ at. disk_at at e.1) which)
+      → FailedToRead g (λ at. disk_at at disks) (λ at. disk_at at e.1) which)
   failed_end (Ok x) failed = tt
   failed_end (Err e) failed = λ which is. elim (failed which is) [
-    | inl at ↦ failed_at g.tells g.history g.fails g.starved g.faults (λ at. disk_at at disks) (λ at. disk_at at e.1) (journal_on b) which at.0 at.1
-    | inr at ↦ failed_at g.tells g.history g.fails g.starved g.faults (λ at. disk_at at disks) (λ at. disk_at at e.1) Spool which at.0 at.1
+    | inl at ↦ failed_at g (λ at. disk_at at disks) (λ at. disk_at at e.1) (journal_on b) which at.0 at.1
+    | inr at ↦ failed_at g (λ at. disk_at at disks) (λ at. disk_at at e.1) Spool which at.0 at.1
   ]
 
   module _ (yes : IsTrue g.tells) (names : b ≡ is_second (bytes Root)) where

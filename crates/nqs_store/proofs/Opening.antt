@@ -1,8 +1,9 @@
 -- What a host's disks tell, from what the root's byte, a journal and the spool do.
-use Rattle.std.proofs.Common.{◌≡◌, inr, ℕ, Bool, not, IsTrue, List, sym, ap, subst, ◌∙◌, arith}
+use Rattle.std.proofs.Common.{◌≡◌, inr, ℕ, Bool, not, IsTrue, List, sym, ap, subst, arith}
 use Rattle.nqs_types.specs.declared.world.Which.{Which}
 use Rattle.nqs_types.specs.declared.world.Which.TheVariants.{Root, Spool}
-use Rattle.nqs_outside.specs.History.{History, content, IsQuiet}
+use Rattle.nqs_outside.specs.History.{content, IsQuiet}
+use Rattle.nqs_outside.specs.Reads as one
 use Rattle.nqs_outside.specs.declared.disk.Disk as disk
 use Rattle.nqs_rules.specs.Journals.{is_second, journal_on}
 use Rattle.nqs_store.specs.Told.{Host}
@@ -12,7 +13,7 @@ use Rattle.nqs_store.specs.Images.{AreRead, IsToldHost}
 use Rattle.nqs_store.specs.Opens.{AreOpened}
 use Rattle.nqs_store.specs.Faults.{IsBytesFault, IsLoadFault}
 use Rattle.nqs_store.specs.declared.fault.LoadFault.{LoadFault}
-use Rattle.nqs_store.specs.Reads.{OnlyReads, FailedToRead, OnlyReadsOne, OneFailedToRead}
+use Rattle.nqs_store.specs.Reads.{OnlyReads, FailedToRead}
 use Rattle.nqs_store.specs.Stores.{Tells, history_of, active_of, journal_in}
 use Rattle.nqs_store.specs.declared.store.Store.{Store}
 use Rattle.nqs_store.proofs.TellsNow.{active_stands, active_image, told_host}
@@ -26,27 +27,18 @@ pub read_fault : (bytes : Which → List ℕ) (b : Bool) (fault : LoadFault) →
     → IsBytesFault (journal_on b) (bytes (journal_on b)) (bytes Spool) fault → IsLoadFault bytes fault
 read_fault bytes b fault names is = inr (subst (λ c. IsBytesFault (journal_on c) (bytes (journal_on c)) (bytes Spool) fault) names is)
 
-module _ {D : Type 0} (tells : Bool) (history : D → History) (fails : D → ℕ → Bool) (starved : D → Bool) (faults : D → ℕ) where
+module _ {D : Type 0} (g : disk.Ghosts D) where
   -- nothing was done to a disk
-  pub one_same : (old now : D) → now ≡ old → OnlyReadsOne tells history fails starved faults old now
+  pub one_same : (old now : D) → now ≡ old → one.OnlyReads g old now
   one_same old now is = record {
-    same = λ yes. ap history is;
-    fuse = λ yes i. ap (λ d. fails d i) is;
-    starved = λ yes. ap starved is;
-    later = omega (arith, ap faults is);
+    same = λ yes. ap g.history is;
+    fuse = λ yes i. ap (λ d. g.fails d i) is;
+    ends = λ yes i. ap (λ d. g.ends d i) is;
+    starved = λ yes. ap g.starved is;
+    later = omega (arith, ap g.faults is);
   }
 
-  pub one_then : (old mid now : D) → OnlyReadsOne tells history fails starved faults old mid → OnlyReadsOne tells history fails starved faults mid now
-      → OnlyReadsOne tells history fails starved faults old now
-  one_then old mid now first second = record {
-    same = λ yes. second.same yes ∙ first.same yes;
-    fuse = λ yes i. second.fuse yes i ∙ first.fuse yes i;
-    starved = λ yes. second.starved yes ∙ first.starved yes;
-    later = omega (arith, first.later, second.later);
-  }
-
-  pub each_reads : (old now : Which → D) → ((w : Which) → OnlyReadsOne tells history fails starved faults (old w) (now w))
-      → OnlyReads tells history fails starved faults old now
+  pub each_reads : (old now : Which → D) → ((w : Which) → one.OnlyReads g (old w) (now w)) → OnlyReads g old now
   each_reads old now each = record {
     same = λ yes w. (each w).same yes;
     fuse = λ yes w. (each w).fuse yes;
@@ -54,13 +46,8 @@ module _ {D : Type 0} (tells : Bool) (history : D → History) (fails : D → �
     later = λ w. (each w).later;
   }
 
-  pub one_failed : (old now : Which → D) (w : Which) → OneFailedToRead tells history fails faults (old w) (now w)
-      → FailedToRead tells history fails faults old now w
-  one_failed old now w is = record { rose = is.rose; blown = is.blown }
-
-  pub failed_at : (old now : Which → D) (w which : Which) → which ≡ w → OneFailedToRead tells history fails faults (old w) (now w)
-      → FailedToRead tells history fails faults old now which
-  failed_at old now w which at is = subst (FailedToRead tells history fails faults old now) (sym at) (one_failed old now w is)
+  pub failed_at : (old now : Which → D) (w which : Which) → which ≡ w → one.FailedToRead g (old w) (now w) → FailedToRead g old now which
+  failed_at old now w which at is = subst (FailedToRead g old now) (sym at) is
 
 module _ {D : Type 0} {g : disk.Ghosts D} (store : Store D g) where
   -- a store over an open journal and an open spool, whose root names that journal, tells what they

@@ -32,6 +32,7 @@ use Rattle.nqs_store.specs.Images.{IsTold}
 use Rattle.nqs_store.specs.Plan.{CommitsBy, checkpoint_calls}
 use Rattle.nqs_store.specs.Puts.{IsShortPut}
 use Rattle.nqs_store.specs.Putting.{ArePartlyPut}
+use Rattle.nqs_store.specs.Stops.{StopsBy}
 use Rattle.nqs_store.specs.Steps.{IsTextOf, HasBegun, HasBegunShort, HasAppended, HasAppendedShort}
 use Rattle.nqs_store.specs.Stores.{disk_of, history_of, fails_of, is_starved, is_stopped, active_of, Tells, bytes_of, plain_of}
 use Rattle.nqs_store.specs.Told.{Host}
@@ -124,15 +125,8 @@ state_after old change puts host = applied (filling.filled change puts) (plain_o
 
 module _ {D : Type 0} {g : disk.Ghosts D} {T E : Type 0} (old now : Store D g) (failed : Which → E) (result : Result T E) where
   -- what a call that may stop the store leaves of its disks
-  pub record MayStop : Type 0 where
-    -- at Ok it isn't stopped
-    pub running : OnOk result (is_stopped now ≡ false)
-    -- a failed call of a disk stops it, and was counted by that disk
-    pub broken : (which : Which) → IsErrOf result (failed which) → IsTrue (is_stopped now) × Rose (g.faults (disk_of which old)) (g.faults (disk_of which now))
-    -- no disk's count of faults falls
-    pub later : (which : Which) → g.faults (disk_of which old) ≤ g.faults (disk_of which now)
-    -- which calls are to fail stays
-    pub fuse : IsTrue g.tells → (which : Which) (i : ℕ) → fails_of now which i ≡ fails_of old which i
+  abbrev pub MayStop : Type 0
+  MayStop = StopsBy g (is_stopped now) (λ which. disk_of which old) (λ which. disk_of which now) failed result
 
 module _ {D : Type 0} {g : disk.Ghosts D} (old : Store D g) (host : Host) where
   -- a change of the host may be kept in an open store, for which memory was taken

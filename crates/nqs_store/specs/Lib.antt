@@ -21,6 +21,7 @@ pub mod Readings
 pub mod Commits
 pub mod Moments
 pub mod Steps
+pub mod Stops
 pub mod Changing
 pub mod Calls
 pub mod PutCalls

@@ -14,13 +14,14 @@ use Rattle.nqs_store.specs.Active.{IsActive}
 use Rattle.nqs_store.specs.Disks.{disk_at, histories_of, contents}
 use Rattle.nqs_store.specs.Faults.{IsBytesFault, IsLoadFault}
 use Rattle.nqs_store.specs.Images.{IsTold, IsToldHost}
-use Rattle.nqs_store.specs.Reads.{OnlyReads, FailedToRead, OnlyReadsOne, OneFailedToRead}
+use Rattle.nqs_store.specs.Reads.{OnlyReads, FailedToRead}
 use Rattle.nqs_store.specs.Sound.{IsSoundHost}
 use Rattle.nqs_store.specs.Stores as store
 use Rattle.nqs_store.specs.declared.disks.Disks.{Disks}
 use Rattle.nqs_store.specs.declared.fault.LoadFault.{LoadFault}
 use Rattle.nqs_store.specs.declared.fault.LoadFault.TheVariants as load
 use Rattle.nqs_store.specs.declared.store.Store.{Store}
+use Rattle.nqs_outside.specs.Reads as one
 use Rattle.nqs_outside.specs.declared.disk.Disk as disk
 use Rattle.nqs_journal.specs.Either.{front_of, IsSnapshot}
 use Rattle.nqs_journal.specs.Open as journals
@@ -74,16 +75,16 @@ module _ {D : Type 0} {g : disk.Ghosts D} where
         ⊎ IsBytesFault on (bytes_now (g.history on_active)) (bytes_now (g.history on_spool)) e.0)
     -- a failed read was of the journal or of the spool
     pub failed : IfErr result (λ e. (which : Which) → e.0 ≡ load.Disk which
-        → ((which ≡ on) × OneFailedToRead g.tells g.history g.fails g.faults on_active e.1)
-        ⊎ ((which ≡ SpoolDisk) × OneFailedToRead g.tells g.history g.fails g.faults on_spool e.3))
+        → ((which ≡ on) × one.FailedToRead g on_active e.1)
+        ⊎ ((which ≡ SpoolDisk) × one.FailedToRead g on_spool e.3))
     -- the journal is only read
-    pub active : MatchResult result (λ r. OnlyReadsOne g.tells g.history g.fails g.starved g.faults on_active (journals.disk_of r.0))
-        (λ e. OnlyReadsOne g.tells g.history g.fails g.starved g.faults on_active e.1)
+    pub active : MatchResult result (λ r. one.OnlyReads g on_active (journals.disk_of r.0))
+        (λ e. one.OnlyReads g on_active e.1)
     -- the other is left alone
     pub resting : MatchResult result (λ r. journals.disk_of r.1 ≡ on_resting) (λ e. e.2 ≡ on_resting)
     -- the spool is only read
-    pub spool : MatchResult result (λ r. OnlyReadsOne g.tells g.history g.fails g.starved g.faults on_spool (spool.disk_of r.2))
-        (λ e. OnlyReadsOne g.tells g.history g.fails g.starved g.faults on_spool e.3)
+    pub spool : MatchResult result (λ r. one.OnlyReads g on_spool (spool.disk_of r.2))
+        (λ e. one.OnlyReads g on_spool e.3)
 
 module _ {D : Type 0} {g : disk.Ghosts D} where
   -- The disks of a host are opened whose root names the journal on `second`, or the other; or they
@@ -104,20 +105,20 @@ module _ {D : Type 0} {g : disk.Ghosts D} where
         ⊎ IsBytesFault (journal_on second) (bytes_now (g.history on_active)) (bytes_now (g.history on_spool)) e.0)
     -- a failed read was of the journal or of the spool
     pub failed : IfErr result (λ e. (which : Which) → e.0 ≡ load.Disk which
-        → ((which ≡ journal_on second) × OneFailedToRead g.tells g.history g.fails g.faults on_active (disk_at (journal_on second) e.1))
-        ⊎ ((which ≡ SpoolDisk) × OneFailedToRead g.tells g.history g.fails g.faults on_spool e.1.spool))
+        → ((which ≡ journal_on second) × one.FailedToRead g on_active (disk_at (journal_on second) e.1))
+        ⊎ ((which ≡ SpoolDisk) × one.FailedToRead g on_spool e.1.spool))
     -- the root is left alone
     pub root : MatchResult result (λ r. r.0.root ≡ on_root) (λ e. e.1.root ≡ on_root)
     -- the journal is only read
     pub active : MatchResult result
-        (λ r. OnlyReadsOne g.tells g.history g.fails g.starved g.faults on_active (journals.disk_of (store.journal_in second r.0)))
-        (λ e. OnlyReadsOne g.tells g.history g.fails g.starved g.faults on_active (disk_at (journal_on second) e.1))
+        (λ r. one.OnlyReads g on_active (journals.disk_of (store.journal_in second r.0)))
+        (λ e. one.OnlyReads g on_active (disk_at (journal_on second) e.1))
     -- the other is left alone
     pub resting : MatchResult result (λ r. journals.disk_of (store.journal_in (not second) r.0) ≡ on_resting)
         (λ e. disk_at (journal_on (not second)) e.1 ≡ on_resting)
     -- the spool is only read
-    pub spool : MatchResult result (λ r. OnlyReadsOne g.tells g.history g.fails g.starved g.faults on_spool (spool.disk_of r.0.spool))
-        (λ e. OnlyReadsOne g.tells g.history g.fails g.starved g.faults on_spool e.1.spool)
+    pub spool : MatchResult result (λ r. one.OnlyReads g on_spool (spool.disk_of r.0.spool))
+        (λ e. one.OnlyReads g on_spool e.1.spool)
 
   -- The disks of a host are opened, and the host is told; or they are handed back.
   pub record Loads (disks : Disks D) (result : Result (Store D g × HostState) (LoadFault × Disks D)) : Type 0 where
@@ -135,7 +136,7 @@ module _ {D : Type 0} {g : disk.Ghosts D} where
     pub fault : IsTrue g.tells → IfErr result (λ e. IsLoadFault (contents (histories_of g.history disks)) e.0)
     -- and which read failed
     pub failed : IfErr result (λ e. (which : Which) → e.0 ≡ load.Disk which
-        → FailedToRead g.tells g.history g.fails g.faults (λ at. disk_at at disks) (λ at. disk_at at e.1) which)
+        → FailedToRead g (λ at. disk_at at disks) (λ at. disk_at at e.1) which)
     -- the host is the one that the bytes tell
     pub told : IsTrue g.tells → (host : Host) → IsToldHost (contents (histories_of g.history disks)) host → IfOk result (λ r. content r.1 ≡ host)
     -- where they tell one they are at fault nowhere
@@ -143,8 +144,8 @@ module _ {D : Type 0} {g : disk.Ghosts D} where
         → IfErr result (λ e. (which : Which) (place : ℕ) → e.0 ≡ load.NotNqs which place → ⊥)
     -- the disks are only read
     pub reads : MatchResult result
-        (λ r. OnlyReads g.tells g.history g.fails g.starved g.faults (λ at. disk_at at disks) (λ at. store.disk_of at r.0))
-        (λ e. OnlyReads g.tells g.history g.fails g.starved g.faults (λ at. disk_at at disks) (λ at. disk_at at e.1))
+        (λ r. OnlyReads g (λ at. disk_at at disks) (λ at. store.disk_of at r.0))
+        (λ e. OnlyReads g (λ at. disk_at at disks) (λ at. disk_at at e.1))
 
 module _ {D : Type 0} {g : disk.Ghosts D} (old now : Store D g) where
   -- The host is told by what the disks of an open store hold now, whatever the store told before.

@@ -1,12 +1,13 @@
 -- What is found where a host is read from its disks, call by call.
-use Rattle.std.specs.Prelude.{◌≡◌, ◌⊎◌, ℕ, ◌≤◌, ◌^◌, Bool, IsTrue, List, length, Option, Some, IfOk, IfErr, OnErr, IsErrOf}
+use Rattle.std.specs.Prelude.{◌≡◌, ◌⊎◌, ℕ, ◌≤◌, ◌^◌, Bool, IsTrue, List, length, Some, IfOk, IfErr, OnErr, IsErrOf}
 use Rattle.std.specs.declared.result.Result.{Result}
 use Rattle.nqs_state.specs.State.{content}
 use Rattle.nqs_state.specs.declared.state.HostState.{HostState}
 use Rattle.nqs_types.specs.declared.world.Which.{Which}
 use Rattle.nqs_types.specs.declared.world.Which.TheVariants.{Spool as SpoolDisk}
 use Rattle.nqs_base.specs.declared.extent.Extent.{Extent}
-use Rattle.nqs_outside.specs.History.{History, content as bytes_now}
+use Rattle.nqs_outside.specs.History.{content as bytes_now}
+use Rattle.nqs_outside.specs.Reads as one
 use Rattle.nqs_outside.specs.declared.disk.Disk as disk
 use Rattle.nqs_journal.specs.Open as journals
 use Rattle.nqs_journal.specs.declared.journal.Journal.{Journal}
@@ -19,7 +20,6 @@ use Rattle.nqs_spool.specs.declared.spool.Spool.{Spool}
 use Rattle.nqs_store.specs.Faults.{IsReadFault, IsBytesFault, IsExtentFault}
 use Rattle.nqs_store.specs.Live.{live}
 use Rattle.nqs_store.specs.Images.{AreRead}
-use Rattle.nqs_store.specs.Reads.{OnlyReadsOne, OneFailedToRead}
 use Rattle.nqs_store.specs.Sound.{IsSoundHost}
 use Rattle.nqs_store.specs.Told.{Host, told_by}
 use Rattle.nqs_store.specs.declared.fault.LoadFault.{LoadFault}
@@ -36,17 +36,17 @@ pub record BuildsExtents (size : ℕ) (host : Host) (result : Result LiveExtents
   -- a refusal says which of them is bad
   pub err : IfErr result (IsExtentFault size (live host))
 
-module _ {D E : Type 0} (tells : Bool) (history : D → History) (fails : D → ℕ → Bool) (starves : D → Bool) (faults : D → ℕ) where
+module _ {D E : Type 0} (g : disk.Ghosts D) where
   -- A root is asked which journal it names.
   pub record ReadsRoot (old now : D) (result : Result Bool E) : Type 0 where
     -- its first byte is odd where that is the one on `second`
-    pub names : IsTrue tells → IfOk result (λ second. second ≡ is_second (bytes_now (history old)))
+    pub names : IsTrue g.tells → IfOk result (λ second. second ≡ is_second (bytes_now (g.history old)))
     -- the read failed
-    pub failed : OnErr result (OneFailedToRead tells history fails faults old now)
+    pub failed : OnErr result (one.FailedToRead g old now)
     -- the root is only read
-    pub reads : OnlyReadsOne tells history fails starves faults old now
+    pub reads : one.OnlyReads g old now
 
-module _ {D : Type 0} (tells : Bool) (history : D → History) (fails : D → ℕ → Bool) (starves : D → Bool) (faults : D → ℕ) where
+module _ {D : Type 0} (g : disk.Ghosts D) where
   -- The host that a snapshot, if there is one, and records of a journal on this disk tell, with the
   -- set of its live extents in a spool.
   pub record ReadsHost (on : Which) (has : Bool) (snapshot : List ℕ) (payloads : List (List ℕ)) (old now : D)
@@ -55,38 +55,38 @@ module _ {D : Type 0} (tells : Bool) (history : D → History) (fails : D → �
     pub host : IfOk result (λ r. (told_by has snapshot payloads ≡ Some (content r.0)) × IsSoundHost (content r.0) × Covers (kept r.1) (live (content r.0)))
     -- whatever the disk is, they end within 2^40 bytes, and no two meet
     pub extents : IfOk result (λ r. (size : ℕ) × (size ≤ 2 ^ 40) × AreSound size (live (content r.0))
-        × (IsTrue tells → size ≡ length (bytes_now (history old))) × (end_of r.1 ≤ size))
+        × (IsTrue g.tells → size ≡ length (bytes_now (g.history old))) × (end_of r.1 ≤ size))
     -- a refusal says what is at fault
-    pub fault : IsTrue tells → IfErr result (IsReadFault on has snapshot payloads (bytes_now (history old)))
+    pub fault : IsTrue g.tells → IfErr result (IsReadFault on has snapshot payloads (bytes_now (g.history old)))
     -- a failed read was of the spool
-    pub failed : (which : Which) → IsErrOf result (load.Disk which) → (which ≡ SpoolDisk) × OneFailedToRead tells history fails faults old now
+    pub failed : (which : Which) → IsErrOf result (load.Disk which) → (which ≡ SpoolDisk) × one.FailedToRead g old now
     -- the spool is only read
-    pub reads : OnlyReadsOne tells history fails starves faults old now
+    pub reads : one.OnlyReads g old now
 
   -- The host that a journal, which stands on this disk, and a spool tell.
   pub record FindsHost (on : Which) (old_active now_active old_spool now_spool : D) (result : Result HostState LoadFault) : Type 0 where
     -- their bytes tell it
-    pub found : IsTrue tells → IfOk result (λ state. AreRead (bytes_now (history old_active)) (bytes_now (history old_spool)) (content state))
+    pub found : IsTrue g.tells → IfOk result (λ state. AreRead (bytes_now (g.history old_active)) (bytes_now (g.history old_spool)) (content state))
     -- it is sound
     pub sound : IfOk result (λ state. IsSoundHost (content state))
     -- whatever the disks are, its live extents end within 2^40 bytes, and no two meet
     pub extents : IfOk result (λ state. (size : ℕ) × (size ≤ 2 ^ 40) × AreSound size (live (content state)))
     -- a refusal says what is at fault
-    pub fault : IsTrue tells → IfErr result (IsBytesFault on (bytes_now (history old_active)) (bytes_now (history old_spool)))
+    pub fault : IsTrue g.tells → IfErr result (IsBytesFault on (bytes_now (g.history old_active)) (bytes_now (g.history old_spool)))
     -- a failed read was of the journal or of the spool
     pub failed : (which : Which) → IsErrOf result (load.Disk which)
-        → ((which ≡ on) × OneFailedToRead tells history fails faults old_active now_active)
-        ⊎ ((which ≡ SpoolDisk) × OneFailedToRead tells history fails faults old_spool now_spool)
+        → ((which ≡ on) × one.FailedToRead g old_active now_active)
+        ⊎ ((which ≡ SpoolDisk) × one.FailedToRead g old_spool now_spool)
     -- the journal is only read
-    pub active : OnlyReadsOne tells history fails starves faults old_active now_active
+    pub active : one.OnlyReads g old_active now_active
     -- and so is the spool
-    pub spool : OnlyReadsOne tells history fails starves faults old_spool now_spool
+    pub spool : one.OnlyReads g old_spool now_spool
 
 module _ {D : Type 0} {g : disk.Ghosts D} where
   -- The same of an open journal and an open spool.
   pub record RereadsHost (on : Which) (old now : Journal D g) (spool_old spool_now : Spool D g) (result : Result HostState LoadFault) : Type 0 where
     -- what their disks tell
-    pub host : FindsHost g.tells g.history g.fails g.starved g.faults on (journals.disk_of old) (journals.disk_of now)
+    pub host : FindsHost g on (journals.disk_of old) (journals.disk_of now)
         (spools.disk_of spool_old) (spools.disk_of spool_now) result
     -- the journal is the same
     pub stays : (journals.is_stopped now ≡ journals.is_stopped old) × (journals.count_of now ≡ journals.count_of old)

@@ -4,7 +4,7 @@ use Rattle.std.specs.Global.{Vec}
 use Rattle.std.specs.declared.result.Result.{Result}
 use Rattle.nqs_rules.specs.Journals.{byte_of}
 use Rattle.nqs_outside.specs.Causes.{Rose}
-use Rattle.nqs_outside.specs.History.{Call, History, extended, moment, state_at, MayLeave, EachSince, StopsShort, IsExact}
+use Rattle.nqs_outside.specs.History.{Call, extended, moment, state_at, MayLeave, EachSince, StopsShort, IsExact}
 use Rattle.nqs_outside.specs.declared.disk.Disk as disk
 use Rattle.nqs_journal.specs.Text.{StandsAfter, snapshot_front}
 use Rattle.nqs_journal.specs.Plan.{append_calls, begin_calls}
@@ -74,22 +74,22 @@ module _ {D : Type 0} {g : disk.Ghosts D} where
         → IsAtGate (state_at (history_of now) t) (gate_of old)
         (λ image. StandsAfter front image payloads) (λ image. StandsAfter front image (payloads ++ text ∷ []))
 
-module _ {D T E : Type 0} (tells : Bool) (history : D → History) (fails : D → ℕ → Bool) (starves : D → Bool) (faults : D → ℕ) where
+module _ {D T E : Type 0} (g : disk.Ghosts D) where
   -- The first byte of a root names a journal, or one of the two calls failed that write and sync
   -- it.
   pub record Names (second : Bool) (old now : D) (result : Result T E) : Type 0 where
     -- both were made
-    pub made : IsTrue tells → OnOk result (history now ≡ extended (history old) (begin_calls (byte_of second ∷ [])))
+    pub made : IsTrue g.tells → OnOk result (g.history now ≡ extended (g.history old) (begin_calls (byte_of second ∷ [])))
     -- none of them was to fail
-    pub clear : IsTrue tells → OnOk result (AreClear (fails old) (moment (history old)) 2)
+    pub clear : IsTrue g.tells → OnOk result (AreClear (g.fails old) (moment (g.history old)) 2)
     -- the first of them were made, of which only the last may have failed
-    pub broken : IsTrue tells → OnErr result ((calls : List Call) × (history now ≡ extended (history old) calls)
+    pub broken : IsTrue g.tells → OnErr result ((calls : List Call) × (g.history now ≡ extended (g.history old) calls)
         × StopsShort (begin_calls (byte_of second ∷ [])) calls)
     -- which of them failed is the disk's to say
-    pub exact : IsTrue tells → IsExact (fails old) (starves old) (starves now) (history old) (history now) (begin_calls (byte_of second ∷ []))
+    pub exact : IsTrue g.tells → IsExact (g.fails old) (g.starved old) (g.starved now) (g.history old) (g.history now) (begin_calls (byte_of second ∷ []))
     -- which calls are to fail stays
-    pub fuse : IsTrue tells → (i : ℕ) → fails now i ≡ fails old i
+    pub fuse : IsTrue g.tells → (i : ℕ) → g.fails now i ≡ g.fails old i
     -- the count of faults doesn't fall
-    pub later : faults old ≤ faults now
+    pub later : g.faults old ≤ g.faults now
     -- a failed call was counted
-    pub failed : OnErr result (Rose (faults old) (faults now))
+    pub failed : OnErr result (Rose (g.faults old) (g.faults now))

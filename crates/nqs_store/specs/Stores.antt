@@ -85,8 +85,8 @@ module _ {D : Type 0} {g : disk.Ghosts D} where
 
   -- the store only read its disks
   abbrev pub OnlyReads : (old now : Store D g) → Type 0
-  OnlyReads old now = reads.OnlyReads g.tells g.history g.fails g.starved g.faults (λ which. disk_of which old) (λ which. disk_of which now)
+  OnlyReads old now = reads.OnlyReads g (λ which. disk_of which old) (λ which. disk_of which now)
 
   -- a read of one of its disks failed
   abbrev pub FailedToRead : (old now : Store D g) → Which → Type 0
-  FailedToRead old now = reads.FailedToRead g.tells g.history g.fails g.faults (λ which. disk_of which old) (λ which. disk_of which now)
+  FailedToRead old now = reads.FailedToRead g (λ which. disk_of which old) (λ which. disk_of which now)

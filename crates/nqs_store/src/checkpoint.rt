@@ -73,7 +73,7 @@ fn byte_of(second: bool) -> u8
 
 // The root's first byte names the journal.
 fn name_journal<D: Disk>(root: &mut D, second: bool) -> Result<(), Failed>
-    ensures { Names D.tells D.history D.fails D.starved D.faults second root.old root.new result }
+    ensures { Names D.Disk second root.old root.new result }
 {
     let byte = byte_of(second);
     root.write_at(0, &[byte])?;

@@ -30,7 +30,7 @@ use std::alloc::Global;
 
 /// Whether the root names the journal on `second`: its first byte is odd.
 pub(crate) fn names_second<D: Disk>(root: &mut D) -> Result<bool, Failed>
-    ensures { ReadsRoot D.tells D.history D.fails D.starved D.faults root.old root.new result }
+    ensures { ReadsRoot D.Disk root.old root.new result }
 {
     let mut byte = [0u8; 1];
     match root.read_at(0, &mut byte) {
@@ -109,7 +109,7 @@ fn host_in<D: Disk>(
     spool: &mut D,
 ) -> Result<(HostState, LiveExtents), LoadFault>
     requires { length (front_of has snapshot.now ++ records payloads.now) ≤ 2 ^ 40 }
-    ensures { ReadsHost D.tells D.history D.fails D.starved D.faults on has snapshot.now payloads.now spool.old spool.new result }
+    ensures { ReadsHost D.Disk on has snapshot.now payloads.now spool.old spool.new result }
 {
     let state = told_host(alloc, on, has, snapshot, payloads)?;
     let Ok(size) = spool.len() else {
@@ -129,7 +129,7 @@ fn host_with<D: Disk>(
     spool: &mut Spool<D>,
 ) -> Result<(HostState, LiveExtents), LoadFault>
     requires { length (front_of has snapshot.now ++ records payloads.now) ≤ 2 ^ 40 }
-    ensures read { ReadsHost D.tells D.history D.fails D.starved D.faults on has snapshot.now payloads.now (disk_of spool.old) (disk_of spool.new) result }
+    ensures read { ReadsHost D.Disk on has snapshot.now payloads.now (disk_of spool.old) (disk_of spool.new) result }
     ensures tells { (live : List Extent) → SpoolTells spool.old live → SpoolTells spool.new live }
 {
     let state = told_host(alloc, on, has, snapshot, payloads)?;
@@ -147,7 +147,7 @@ pub(crate) fn read_host<D: Disk>(
     active: &mut D,
     spool: &mut D,
 ) -> Result<HostState, LoadFault>
-    ensures { FindsHost D.tells D.history D.fails D.starved D.faults on active.old active.new spool.old spool.new result }
+    ensures { FindsHost D.Disk on active.old active.new spool.old spool.new result }
 {
     let mut snapshot = Vec::new(alloc);
     let mut found = Vec::new(alloc);

@@ -48,7 +48,7 @@ pub fn read_only<D: Disk>(alloc: Global, disks: &mut Disks<D>) -> Result<HostSta
     ensures extents { IfOk result (λ state. (size : ℕ) × (size ≤ 2 ^ 40) × AreSound size (live (content state))) }
     ensures fault { IsTrue D.tells → IfErr result (IsLoadFault (contents (histories_of D.history disks.old))) }
     ensures failed { (which : Which) → IsErrOf result (LoadFault.Disk which)
-        → FailedToRead D.tells D.history D.fails D.faults (λ at. disk_at at disks.old) (λ at. disk_at at disks.new) which }
+        → FailedToRead D.Disk (λ at. disk_at at disks.old) (λ at. disk_at at disks.new) which }
 
     // The host is the one that the bytes tell, and where they tell one they are at fault nowhere.
     ensures host { IsTrue D.tells → (host : Host) → IsToldHost (contents (histories_of D.history disks.old)) host
@@ -56,7 +56,7 @@ pub fn read_only<D: Disk>(alloc: Global, disks: &mut Disks<D>) -> Result<HostSta
     ensures never { IsTrue D.tells → (plain : Plain) → IsTold (contents (histories_of D.history disks.old)) plain
         → (which : Which) (place : ℕ) → IsErrOf result (LoadFault.NotNqs which place) → ⊥ }
 
-    ensures reads { OnlyReads D.tells D.history D.fails D.starved D.faults (λ at. disk_at at disks.old) (λ at. disk_at at disks.new) }
+    ensures reads { OnlyReads D.Disk (λ at. disk_at at disks.old) (λ at. disk_at at disks.new) }
 {
     let Ok(second) = names_second(&mut disks.root) else {
         return Err(LoadFault::Disk(Which::Root));

@@ -23,7 +23,7 @@ returns-in_err-read_one-clause-spool g c =
     rw (p.1, p.2) (record {
       only = one.only;
       stopped = λ is. subst IsTrue v.stays.0 (one.stopped is);
-      failed = λ failed. failed_since _ _ _ Spool v.reads (one.failed failed);
+      failed = λ failed. failed_since _ _ c.read_one.new.store Spool v.reads (one.failed failed);
       reads = reads_then _ _ _ v.reads one.reads;
       stays = (one.stays.0 ∙ v.stays.0, one.stays.1 ∙ v.stays.1);
       tells = λ yes host told. one.tells yes host (v.tells yes host told);

@@ -10,5 +10,5 @@ returns-clause-read g c =
       extents = (c.in-Ok.size, size.small, extents.sound, (λ told. size.length told), extents.end);
       fault = λ told. tt;
       failed = search rules;
-      reads = record { same = λ told. size.same told; fuse = λ told i. size.fuse told i; starved = λ told. size.starved told; later = size.later };
+      reads = size.reads;
     }

@@ -2,6 +2,7 @@ use Rattle.std.proofs.Common.{rules, ◌≡◌, ◌∙◌, ◌++◌, ◌≤◌, 
 use Rattle.std.specs.List.{AllByRecursion}
 use Rattle.nqs_state.specs.State.{content}
 use Rattle.nqs_outside.specs.History.{IsQuiet, content as bytes_now}
+use Rattle.nqs_outside.specs.Reads.{OnlyReads}
 use Rattle.nqs_spool.specs.Extents.{past}
 use Rattle.nqs_store.specs.Live.{live}
 use Rattle.nqs_store.specs.Told.{told_by}
@@ -24,12 +25,7 @@ returns-in-Err-open_rest g c =
       extents = tt;
       fault = search rules;
       failed = search rules;
-      active = record {
-        same = λ told. ap g.D.Disk.history back ∙ e.same told;
-        fuse = λ told i. ap (λ d. g.D.Disk.fails d i) back ∙ e.fuse told i;
-        starved = λ told. ap g.D.Disk.starved back ∙ e.starved told;
-        later = omega (arith, ap g.D.Disk.faults back, e.later);
-      };
+      active = subst (OnlyReads g.D.Disk c.args.active) (sym back) e.reads;
       resting = search rules;
       spool = search rules;
     }
@@ -60,12 +56,7 @@ returns g c = record {
   extents = search rules;
   fault = λ told. tt;
   failed = tt;
-  active = record {
-    same = λ told. c.in-Ok.ensures.same told;
-    fuse = λ told i. c.in-Ok.ensures.fuse told i;
-    starved = λ told. c.in-Ok.ensures.starved told;
-    later = omega (arith, c.in-Ok.ensures.later);
-  };
+  active = c.in-Ok.ensures.reads;
   resting = search rules;
   spool = search rules;
 }

@@ -2,7 +2,7 @@ use Rattle.std.proofs.Common.{◌≡◌, inl, inr, true, false, refl, sym, ◌�
 use Rattle.nqs_types.specs.declared.world.Which.TheVariants.{Root, First, Second, Spool}
 use Rattle.nqs_store.specs.Disks.{histories_of, contents}
 use Rattle.nqs_store.proofs.EachDisk.{each_disk}
-use Rattle.nqs_store.proofs.Opening.{one_same, each_reads, failed_at}
+use Rattle.nqs_store.proofs.Opening.{one_same, each_reads}
 use Rattle.nqs_store.proofs.ReadEnds.{told_end, fault_end, host_end, never_end}
 use Rattle.nqs_store.proofs.store.read_only.Goals as goal
 
@@ -12,14 +12,14 @@ returns-in_default-clause-fault g c = λ told. inl (inl refl)
 pub returns-in_default-clause-failed : goal.returns-in_default-clause-failed
 returns-in_default-clause-failed g c = λ which is.
     let at : which ≡ Root = cc in
-    failed_at _ _ _ g.D.Disk.starved _ _ _ Root which at c.in_default.ensures.failed
+    rw (at) c.in_default.ensures.failed
 
 pub returns-in_default-clause-never : goal.returns-in_default-clause-never
 returns-in_default-clause-never g c = λ told plain tells which place is. let no : ⊥ = cc in no
 
 pub returns-in_default-clause-reads : goal.returns-in_default-clause-reads
-returns-in_default-clause-reads g c = each_reads _ _ _ _ _ _ _
-    (each_disk _ c.in_default.ensures.reads (one_same _ _ _ _ _ _ _ refl) (one_same _ _ _ _ _ _ _ refl) (one_same _ _ _ _ _ _ _ refl))
+returns-in_default-clause-reads g c = each_reads _ _ _
+    (each_disk _ c.in_default.ensures.reads (one_same _ _ _ refl) (one_same _ _ _ refl) (one_same _ _ _ refl))
 
 pub returns-then-second-clause-told : goal.returns-then-second-clause-told
 returns-then-second-clause-told g c = λ told.
@@ -39,8 +39,8 @@ returns-then-second-clause-fault g c = λ told.
 
 pub returns-then-second-clause-failed : goal.returns-then-second-clause-failed
 returns-then-second-clause-failed g c = λ which is. elim (c.read_host.ensures.failed which is) [
-  | inl at ↦ failed_at _ _ _ g.D.Disk.starved _ _ _ Second which at.0 at.1
-  | inr at ↦ failed_at _ _ _ g.D.Disk.starved _ _ _ Spool which at.0 at.1
+  | inl at ↦ rw (at.0) at.1
+  | inr at ↦ rw (at.0) at.1
 ]
 
 pub returns-then-second-clause-host : goal.returns-then-second-clause-host
@@ -55,7 +55,7 @@ returns-then-second-clause-never g c = λ told plain tells which place is.
 
 pub returns-then-second-clause-reads : goal.returns-then-second-clause-reads
 returns-then-second-clause-reads g c =
-    each_reads _ _ _ _ _ _ _ (each_disk _ c.in-Ok.ensures.reads (one_same _ _ _ _ _ _ _ refl) c.read_host.ensures.active c.read_host.ensures.spool)
+    each_reads _ _ _ (each_disk _ c.in-Ok.ensures.reads (one_same _ _ _ refl) c.read_host.ensures.active c.read_host.ensures.spool)
 
 pub returns-else-second-clause-told : goal.returns-else-second-clause-told
 returns-else-second-clause-told g c = λ told.
@@ -75,8 +75,8 @@ returns-else-second-clause-fault g c = λ told.
 
 pub returns-else-second-clause-failed : goal.returns-else-second-clause-failed
 returns-else-second-clause-failed g c = λ which is. elim (c.read_host-else-second.ensures.failed which is) [
-  | inl at ↦ failed_at _ _ _ g.D.Disk.starved _ _ _ First which at.0 at.1
-  | inr at ↦ failed_at _ _ _ g.D.Disk.starved _ _ _ Spool which at.0 at.1
+  | inl at ↦ rw (at.0) at.1
+  | inr at ↦ rw (at.0) at.1
 ]
 
 pub returns-else-second-clause-host : goal.returns-else-second-clause-host
@@ -91,5 +91,5 @@ returns-else-second-clause-never g c = λ told plain tells which place is.
 
 pub returns-else-second-clause-reads : goal.returns-else-second-clause-reads
 returns-else-second-clause-reads g c =
-    each_reads _ _ _ _ _ _ _
-    (each_disk _ c.in-Ok.ensures.reads c.read_host-else-second.ensures.active (one_same _ _ _ _ _ _ _ refl) c.read_host-else-second.ensures.spool)
+    each_reads _ _ _
+    (each_disk _ c.in-Ok.ensures.reads c.read_host-else-second.ensures.active (one_same _ _ _ refl) c.read_host-else-second.ensures.spool)

@@ -1,7 +1,7 @@
 use Rattle.std.proofs.Common.{◌≡◌, ◌∙◌, inl, true, false, refl, sym}
 use Rattle.nqs_types.specs.declared.world.Which.TheVariants.{Root, First, Second, Spool}
 use Rattle.nqs_store.proofs.EachDisk.{each_disk}
-use Rattle.nqs_store.proofs.Opening.{one_same, each_reads, failed_at}
+use Rattle.nqs_store.proofs.Opening.{one_same, each_reads}
 use Rattle.nqs_store.proofs.LoadEnds.{loads_end}
 use Rattle.nqs_store.proofs.store.Store.load.Goals as goal
 
@@ -22,12 +22,12 @@ returns-in_default g c = record {
   failed =
       λ which is.
       let at : which ≡ Root = cc in
-      failed_at _ _ _ g.D.Disk.starved _ _ _ Root which at c.in_default.ensures.failed;
+      rw (at) c.in_default.ensures.failed;
   told = λ told host is. tt;
   never = λ told plain is which place no. let never : ⊥ = cc in never;
   reads =
-      each_reads _ _ _ _ _ _ _
-      (each_disk _ c.in_default.ensures.reads (one_same _ _ _ _ _ _ _ refl) (one_same _ _ _ _ _ _ _ refl) (one_same _ _ _ _ _ _ _ refl));
+      each_reads _ _ _
+      (each_disk _ c.in_default.ensures.reads (one_same _ _ _ refl) (one_same _ _ _ refl) (one_same _ _ _ refl));
 }
 
 pub returns-then-on_second : goal.returns-then-on_second

@@ -3,7 +3,7 @@ use Rattle.nqs_types.specs.declared.world.Which.TheVariants.{Root, First, Second
 use Rattle.nqs_store.specs.Disks.{contents}
 use Rattle.nqs_store.specs.Stores.{history_of}
 use Rattle.nqs_store.proofs.EachDisk.{each_disk}
-use Rattle.nqs_store.proofs.Opening.{one_same, each_reads, failed_at, tells_read}
+use Rattle.nqs_store.proofs.Opening.{one_same, each_reads, tells_read}
 use Rattle.nqs_store.proofs.ReadEnds.{told_end, fault_end, host_end, never_end}
 use Rattle.nqs_store.proofs.Rereading.{either_one, first_runs, second_runs, active_again, tells_again}
 use Rattle.nqs_store.proofs.store.Store.reread.Goals as goal
@@ -35,10 +35,10 @@ returns-in_default g c = record {
   failed =
       λ which is.
       let at : which ≡ Root = cc in
-      failed_at _ _ _ g.D.Disk.starved _ _ _ Root which at c.in_default.ensures.failed;
+      rw (at) c.in_default.ensures.failed;
   reads =
-      each_reads _ _ _ _ _ _ _
-      (each_disk _ c.in_default.ensures.reads (one_same _ _ _ _ _ _ _ refl) (one_same _ _ _ _ _ _ _ refl) (one_same _ _ _ _ _ _ _ refl));
+      each_reads _ _ _
+      (each_disk _ c.in_default.ensures.reads (one_same _ _ _ refl) (one_same _ _ _ refl) (one_same _ _ _ refl));
   stays = (refl, refl);
   tells =
       λ told.
@@ -69,12 +69,12 @@ returns-then-second g c = record {
       c.reread_host.result (c.reread_host.ensures.host.fault told) host (tells_read c.args.self.now host told tells) which place is;
   failed =
       λ which is. elim (c.reread_host.ensures.host.failed which is) [
-        | inl at ↦ failed_at _ _ _ g.D.Disk.starved _ _ _ Second which at.0 at.1
-        | inr at ↦ failed_at _ _ _ g.D.Disk.starved _ _ _ Spool which at.0 at.1
+        | inl at ↦ rw (at.0) at.1
+        | inr at ↦ rw (at.0) at.1
       ];
   reads =
-      each_reads _ _ _ _ _ _ _
-      (each_disk _ c.in-Ok.ensures.reads (one_same _ _ _ _ _ _ _ refl) c.reread_host.ensures.host.active c.reread_host.ensures.host.spool);
+      each_reads _ _ _
+      (each_disk _ c.in-Ok.ensures.reads (one_same _ _ _ refl) c.reread_host.ensures.host.active c.reread_host.ensures.host.spool);
   stays = (
     refl,
     active_again c.args.self.now c.args.self.now.first c.reread_host.new.journal (either_one _ refl c.reread_host.ensures.stays.1),
@@ -108,12 +108,12 @@ returns-else-second g c = record {
       c.reread_host-else-second.result (c.reread_host-else-second.ensures.host.fault told) host (tells_read c.args.self.now host told tells) which place is;
   failed =
       λ which is. elim (c.reread_host-else-second.ensures.host.failed which is) [
-        | inl at ↦ failed_at _ _ _ g.D.Disk.starved _ _ _ First which at.0 at.1
-        | inr at ↦ failed_at _ _ _ g.D.Disk.starved _ _ _ Spool which at.0 at.1
+        | inl at ↦ rw (at.0) at.1
+        | inr at ↦ rw (at.0) at.1
       ];
   reads =
-      each_reads _ _ _ _ _ _ _
-      (each_disk _ c.in-Ok.ensures.reads c.reread_host-else-second.ensures.host.active (one_same _ _ _ _ _ _ _ refl)
+      each_reads _ _ _
+      (each_disk _ c.in-Ok.ensures.reads c.reread_host-else-second.ensures.host.active (one_same _ _ _ refl)
       c.reread_host-else-second.ensures.host.spool);
   stays = (
     refl,
