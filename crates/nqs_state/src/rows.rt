@@ -278,6 +278,10 @@ impl Rows {
             → FnOnceReturnsAtMut F.FnOnce f v tt w → w ≡ g v) → self.new.items ≡ change_first (is_row key.now) g self.old.items }
         ensures room { self.old.spare ≤ self.new.spare }
     {
+        if self.index.is_none() {
+            self.table.change(key, f);
+            return;
+        }
         let Some(before) = seat_at(&self.table, key) else {
             return;
         };

@@ -15,20 +15,25 @@ returns-in_default-clause-changed g c does says =
 
 pub unreachable-requires : goal.unreachable-requires
 unreachable-requires g c =
-    still_there c.args.key.now c.self.inside.table.items c.change.new.self.items (λ v w. FnOnceReturnsAtMut g.F.FnOnce c.args.f v tt w) c.requires.keeps
-    c.change.ensures.made c.in-Some.before (sym c.in-Some.is ∙ c.seat_at.ensures) (sym c.in_default-seat_at.is ∙ c.seat_at-2.ensures)
+    still_there c.args.key.now c.self.inside.table.items c.change-2.new.self.items (λ v w. FnOnceReturnsAtMut g.F.FnOnce c.args.f v tt w) c.requires.keeps
+    c.change-2.ensures.made c.in-Some.before (sym c.in-Some.is ∙ c.seat_at.ensures) (sym c.in_default-seat_at.is ∙ c.seat_at-2.ensures)
 
-pub invariant_of-self : goal.invariant_of-self
-invariant_of-self g c =
+pub invariant_of-self-2 : goal.invariant_of-self-2
+invariant_of-self-2 g c =
     let test = is_row c.args.key.now in
     let rows = c.self.inside.table.items in
     let before = sym c.in-Some.is ∙ c.seat_at.ensures in
-    c.reseat.ensures (map seat_of (without_first test rows)) (map seat_of rows) (map seat_of c.change.new.self.items) c.self.invariant
+    c.reseat.ensures (map seat_of (without_first test rows)) (map seat_of rows) (map seat_of c.change-2.new.self.items) c.self.invariant
     (gone test rows c.in-Some.before before)
-    (changed c.args.key.now rows c.change.new.self.items (λ v w. FnOnceReturnsAtMut g.F.FnOnce c.args.f v tt w) c.requires.keeps c.change.ensures.made
+    (changed c.args.key.now rows c.change-2.new.self.items (λ v w. FnOnceReturnsAtMut g.F.FnOnce c.args.f v tt w) c.requires.keeps c.change-2.ensures.made
     c.in-Some.before before c.in-Some-seat_at.after (sym c.in-Some-seat_at.is ∙ c.seat_at-2.ensures))
 
 pub returns-clause-changed : goal.returns-clause-changed
 returns-clause-changed g c does says =
+    c.change-2.ensures.changed does (λ v w there. says v w (ap (λ r. find (is_row c.args.key.now) r.items) (sym c.self.view_is) ∙ there))
+    ∙ ap (λ r. change_first (is_row c.args.key.now) does r.items) c.self.view_is
+
+pub returns-then-is_none-clause-changed : goal.returns-then-is_none-clause-changed
+returns-then-is_none-clause-changed g c does says =
     c.change.ensures.changed does (λ v w there. says v w (ap (λ r. find (is_row c.args.key.now) r.items) (sym c.self.view_is) ∙ there))
     ∙ ap (λ r. change_first (is_row c.args.key.now) does r.items) c.self.view_is
