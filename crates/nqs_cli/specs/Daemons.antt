@@ -13,11 +13,18 @@ use Rattle.nqs_rules.specs.Applied.{applied}
 use Rattle.nqs_rules.specs.Tests.{same_host}
 use Rattle.nqs_outside.specs.Asked.{Asked, Print, Filing}
 use Rattle.nqs_outside.specs.Causes.{Rose}
+use Rattle.nqs_outside.specs.declared.clock.Clock as clock
+use Rattle.nqs_outside.specs.declared.disk.Disk as disk
+use Rattle.nqs_outside.specs.declared.launcher.Launcher as launcher
+use Rattle.nqs_outside.specs.declared.outlet.Outlet as outlet
+use Rattle.nqs_outside.specs.declared.printer.Printer as printer
+use Rattle.nqs_outside.specs.declared.wire.Wire as wire
 use Rattle.nqs_store.specs.Active.{Active, IsActive}
 use Rattle.nqs_store.specs.Disks.{contents}
 use Rattle.nqs_store.specs.Faults.{IsLoadFault}
 use Rattle.nqs_store.specs.Commits.{EachImage}
 use Rattle.nqs_store.specs.Images.{IsTold}
+use Rattle.nqs_store.specs.declared.disks.Disks.{Disks}
 use Rattle.nqs_store.specs.declared.fault.LoadFault.TheVariants.{NotNqs}
 use Rattle.nqs_node.specs.Carried.{IsBrokenOff, IsOneOrOther}
 use Rattle.nqs_serve.specs.Ends.{EndsWith, stops}
@@ -29,7 +36,7 @@ use Rattle.nqs_serve.specs.declared.daemon.ServeEnd.TheVariants as end
 use Rattle.nqs_clients.specs.declared.status.NqsStatus.{NqsStatus}
 use Rattle.nqs_clients.specs.declared.status.NqsStatus.TheVariants.{Done, NotNqs as BadDisks, WireFault, DiskFault, TurnsUsed, Memory}
 use Rattle.nqs_cli.specs.Formats.{AreSame}
-use Rattle.nqs_cli.specs.Parts.{DisksTold, WireTold, Lent, disks_of, wire_of, launcher_of, printer_of, outlet_of, the_clock}
+use Rattle.nqs_cli.specs.Parts.{DisksTold, WireTold, disks_told, wire_told, Lent, disks_of, wire_of, launcher_of, printer_of, outlet_of, the_clock}
 
 -- what the parts of a daemon tell
 pub record Outside : Type 0 where
@@ -43,6 +50,12 @@ pub record Outside : Type 0 where
 -- the same, from what each part tells
 abbrev pub outside : DisksTold → WireTold → Option (List Asked) → Option (List Print) → Option (List Filing) → Option (List ℕ) → Outside
 outside d w a p f c = record { disks = d; wire = w; asked = a; prints = p; filings = f; given = c }
+
+module _ {D W L P O C : Type 0} (gd : disk.Ghosts D) (gw : wire.Ghosts W) (gl : launcher.Ghosts L) (gp : printer.Ghosts P) (go : outlet.Ghosts O)
+    (gc : clock.Ghosts C) where
+  -- what these parts tell
+  abbrev pub told_of : Disks D → W → L → P → O → C → Outside
+  told_of disks w l p o c = outside (disks_told gd disks) (wire_told gw w) (gl.asked l) (gp.prints p) (go.filings o) (gc.given c)
 
 -- the same without the disks
 abbrev pub telling_of : Outside → Telling

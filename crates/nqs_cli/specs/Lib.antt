@@ -3,4 +3,5 @@ pub mod Parts
 pub mod Formats
 pub mod Daemons
 pub mod Runs
+pub mod Lending
 pub mod Ends

@@ -1,10 +1,15 @@
 -- What the parts of a machine tell, as they are handed over and as they come back.
-use Rattle.std.specs.Prelude.{ℕ, List, [], ◌∷◌}
+use Rattle.std.specs.Prelude.{ℕ, ◌≤◌, List, [], ◌∷◌, IfOk, OnErr, IsErrOf}
 use Rattle.std.specs.declared.option.Option.{Option}
+use Rattle.std.specs.declared.result.Result.{Result}
 use Rattle.nqs_types.specs.declared.ids.HostId.{HostId}
 use Rattle.nqs_types.specs.declared.world.Which.{Which}
 use Rattle.nqs_outside.specs.Asked.{Arrival, Packet, Asked, Print, Filing, Job}
+use Rattle.nqs_outside.specs.Causes.{Rose}
 use Rattle.nqs_outside.specs.History.{History}
+use Rattle.nqs_outside.specs.Told.{Extends}
+use Rattle.nqs_outside.specs.declared.disk.Disk as disk
+use Rattle.nqs_outside.specs.declared.wire.Wire as wire
 use Rattle.nqs_store.specs.Disks.{disk_at, histories_of}
 use Rattle.nqs_store.specs.declared.disks.Disks.{Disks}
 
@@ -53,11 +58,35 @@ as_lent (outlet_of dir host filings) = outlet_back filings ∷ []
 as_lent (runner_of dir host runs) = runner_back runs ∷ []
 as_lent (the_clock given) = clock_back given ∷ []
 
--- what disks tell, by what each of them tells
-abbrev pub disks_told : {D : Type 0} → (D → History) → (D → ℕ) → Disks D → DisksTold
-disks_told {D} history faults disks = record { histories = histories_of history disks; faults = λ which. faults (disk_at which disks) }
+-- what disks tell
+abbrev pub disks_told : {D : Type 0} → disk.Ghosts D → Disks D → DisksTold
+disks_told {D} g disks = record { histories = histories_of g.history disks; faults = λ which. g.faults (disk_at which disks) }
 
 -- what a wire tells
-abbrev pub wire_told : {W : Type 0} → (W → Option (List Arrival)) → (W → Option (List Packet)) → (W → ℕ) → (W → ℕ) → W → WireTold
-wire_told {W} received sent receive_faults send_faults w =
-    record { received = received w; sent = sent w; receive_faults = receive_faults w; send_faults = send_faults w }
+abbrev pub wire_told : {W : Type 0} → wire.Ghosts W → W → WireTold
+wire_told {W} g w = record { received = g.received w; sent = g.sent w; receive_faults = g.receive_faults w; send_faults = g.send_faults w }
+
+-- what a machine tells: what it handed over, what came back, and how often a call of it has failed
+pub record MachineTold : Type 0 where
+  pub lent : Option (List Lent)
+  pub back : Option (List Back)
+  pub faults : ℕ
+
+-- a machine handed a part over, as it was then; or the call failed, or memory was wanting
+pub record HandsOver {T E : Type 0} (old now : MachineTold) (says : T → Lent) (fault : E) (result : Result T E) : Type 0 where
+  -- the part was handed over
+  pub lent : IfOk result (λ part. Extends old.lent now.lent (says part ∷ []))
+  -- or none was
+  pub none : OnErr result (Extends old.lent now.lent [])
+  -- nothing came back
+  pub back : Extends old.back now.back []
+  -- the count of faults doesn't fall
+  pub later : old.faults ≤ now.faults
+  -- and rose where the call failed
+  pub failed : IsErrOf result fault → Rose old.faults now.faults
+
+-- a machine took a part back
+pub record TakesBack (old now : MachineTold) (part : Back) : Type 0 where
+  pub back : Extends old.back now.back (part ∷ [])
+  pub lent : Extends old.lent now.lent []
+  pub later : old.faults ≤ now.faults

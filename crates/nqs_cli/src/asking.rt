@@ -57,13 +57,13 @@ pub(crate) fn ask<M: Machine, S: Source, K: Sink>(
     out: &mut K,
 ) -> NqsStatus
     requires few { length site.now ≤ 16 }
-    ensures parts { (parts : Lists) × Extends (M.lent machine.old) (M.lent machine.new) parts.lent
-        × Extends (M.back machine.old) (M.back machine.new) parts.back
+    ensures parts { (parts : Lists) × Extends (M.told machine.old).lent (M.told machine.new).lent parts.lent
+        × Extends (M.told machine.old).back (M.told machine.new).back parts.back
         × (DoesClient (record { dir = dir.now; names = site.now; me = me }) (map (λ s. string_bytes s) words.now)
         (fed S.left S.faults input.old input.new) (sunk K.taken K.faults K.stalls out.old out.new) parts result
-        ⊎ (IsWanting (M.faults machine.old) (M.faults machine.new) result × (parts ≡ no_parts)
+        ⊎ (IsWanting (M.told machine.old).faults (M.told machine.new).faults result × (parts ≡ no_parts)
         × IsUntouched (fed S.left S.faults input.old input.new) (sunk K.taken K.faults K.stalls out.old out.new))) }
-    ensures later { M.faults machine.old ≤ M.faults machine.new }
+    ensures later { (M.told machine.old).faults ≤ (M.told machine.new).faults }
 {
     let words = match without_dir(alloc, words) {
         Ok(words) => words,
@@ -105,13 +105,13 @@ fn with_runner<M: Machine>(
     requires id { is_sane_id id ≡ true }
     requires origin { is_of_site (length site.now) id.host ≡ true }
     ensures parts { ((port : ℕ) × (was now : WireTold) × (end : ShepherdEnd)
-        × Extends (M.lent machine.old) (M.lent machine.new) (wire_of dir.now None port was ∷ [])
-        × Extends (M.back machine.old) (M.back machine.new) (wire_back now ∷ []) × (result ≡ status_of_shepherd end)
+        × Extends (M.told machine.old).lent (M.told machine.new).lent (wire_of dir.now None port was ∷ [])
+        × Extends (M.told machine.old).back (M.told machine.new).back (wire_back now ∷ []) × (result ≡ status_of_shepherd end)
         × Shepherds host port id start (M.R.runs runner.old) (M.R.runs runner.new) was.received now.received was.sent now.sent end
         × (end ≡ ShepherdEnd.WireFault → Rose was.receive_faults now.receive_faults))
-        ⊎ (IsWanting (M.faults machine.old) (M.faults machine.new) result × (M.R.runs runner.new ≡ M.R.runs runner.old)
-        × Extends (M.lent machine.old) (M.lent machine.new) [] × Extends (M.back machine.old) (M.back machine.new) []) }
-    ensures later { M.faults machine.old ≤ M.faults machine.new }
+        ⊎ (IsWanting (M.told machine.old).faults (M.told machine.new).faults result × (M.R.runs runner.new ≡ M.R.runs runner.old)
+        × Extends (M.told machine.old).lent (M.told machine.new).lent [] × Extends (M.told machine.old).back (M.told machine.new).back []) }
+    ensures later { (M.told machine.old).faults ≤ (M.told machine.new).faults }
 {
     match machine.wire(dir, None) {
         Err(end) => status_of_end(end),
@@ -137,13 +137,13 @@ pub(crate) fn tend<M: Machine>(
     requires host { is_of_site (length site.now) host ≡ true }
     requires id { is_sane_id id ≡ true }
     requires origin { is_of_site (length site.now) id.host ≡ true }
-    ensures parts { (parts : Lists) × Extends (M.lent machine.old) (M.lent machine.new) parts.lent
-        × Extends (M.back machine.old) (M.back machine.new) parts.back
+    ensures parts { (parts : Lists) × Extends (M.told machine.old).lent (M.told machine.new).lent parts.lent
+        × Extends (M.told machine.old).back (M.told machine.new).back parts.back
         × (DoesShepherd (record { dir = dir.now; names = site.now; me = host }) id start parts result
-        ⊎ (IsWanting (M.faults machine.old) (M.faults machine.new) result
+        ⊎ (IsWanting (M.told machine.old).faults (M.told machine.new).faults result
         × ((port : ℕ) × (runs : Option (List Job)) × (told : WireTold) × BreaksOff
         (shepherd_parts (record { dir = dir.now; names = site.now; me = host }) port runs told) parts))) }
-    ensures later { M.faults machine.old ≤ M.faults machine.new }
+    ensures later { (M.told machine.old).faults ≤ (M.told machine.new).faults }
 {
     match machine.runner(dir, host) {
         Err(end) => status_of_end(end),

@@ -12,13 +12,13 @@ ghost use Rattle.nqs_outside.specs.Told.{Extends};
 ghost use Rattle.nqs_store.specs.Disks.{histories_of};
 ghost use Rattle.nqs_store.specs.declared.disks.Disks.{Disks};
 ghost use Rattle.nqs_node.specs.Boots.{IsLoaded};
-ghost use Rattle.nqs_cli.specs.Parts.{disks_told, wire_told};
-ghost use Rattle.nqs_cli.specs.Daemons.{Outside, outside, Daemons, IsHere, is_here, daemon_parts};
+ghost use Rattle.nqs_cli.specs.Parts.{disks_told};
+ghost use Rattle.nqs_cli.specs.Daemons.{Outside, told_of, Daemons, IsHere, is_here, daemon_parts};
 ghost use Rattle.nqs_cli.specs.Ends.{status_of_fault, status_of_serve};
 ghost use Rattle.nqs_cli.specs.Runs.{Parts as Lists, IsWanting, DoesDaemon, BreaksOff};
 
 use crate::lending::{Parts, give_back, lend};
-use crate::machine::Machine;
+use crate::machine::{Machine, Notices};
 use nqs_base::Name;
 use nqs_clients::NqsStatus;
 use nqs_node::Node;
@@ -60,10 +60,19 @@ fn is_here(me: HostId, names: &[Name], state: &HostState) -> bool
 
 // Boots the host that was loaded from its disks, which is this one, and serves; the disks come
 // back.
-fn boot_and_serve<D: Disk + Drop, W: Wire, L: Launcher, P: Printer, O: Outlet, C: Clock>(
+fn boot_and_serve<
+    D: Disk + Drop,
+    W: Wire,
+    L: Launcher,
+    P: Printer,
+    O: Outlet,
+    C: Clock,
+    N: Notices,
+>(
     alloc: Global,
     store: Store<D>,
     state: HostState,
+    notices: &N,
     wire: &mut W,
     launcher: &mut L,
     printer: &mut P,
@@ -73,18 +82,17 @@ fn boot_and_serve<D: Disk + Drop, W: Wire, L: Launcher, P: Printer, O: Outlet, C
 ) -> (NqsStatus, Disks<D>)
     requires loaded { (disks : Disks D) × IsLoaded disks store state }
     ensures { (me : HostId) (names : List (List ℕ)) (disks : Disks D) → IsLoaded disks store state
-        → IsHere D.tells me names (disks_told D.history D.faults disks)
+        → IsHere D.tells me names (disks_told D.Disk disks)
         → Daemons D.tells me names turns
-        (outside (disks_told D.history D.faults disks) (wire_told W.received W.sent W.receive_faults W.send_faults wire.old)
-        (L.asked launcher.old) (P.prints printer.old) (O.filings outlet.old) (C.given clock.old))
-        (outside (disks_told D.history D.faults result.1) (wire_told W.received W.sent W.receive_faults W.send_faults wire.new)
-        (L.asked launcher.new) (P.prints printer.new) (O.filings outlet.new) (C.given clock.new))
+        (told_of D.Disk W.Wire L.Launcher P.Printer O.Outlet C.Clock disks wire.old launcher.old printer.old outlet.old clock.old)
+        (told_of D.Disk W.Wire L.Launcher P.Printer O.Outlet C.Clock result.1 wire.new launcher.new printer.new outlet.new clock.new)
         result.0 }
 {
     let mut said = Vec::new(alloc);
     match Node::boot_loaded(alloc, store, state, &mut said) {
         Err((fault, disks)) => (status_of_fault(fault), disks),
         Ok(mut node) => {
+            notices.booted(node.state(), &said);
             let end = serve(
                 alloc, &mut node, wire, launcher, printer, outlet, clock, turns,
             );
@@ -94,11 +102,20 @@ fn boot_and_serve<D: Disk + Drop, W: Wire, L: Launcher, P: Printer, O: Outlet, C
 }
 
 // Serves where the disks are this host's; the disks come back.
-fn load_and_serve<D: Disk + Drop, W: Wire, L: Launcher, P: Printer, O: Outlet, C: Clock>(
+fn load_and_serve<
+    D: Disk + Drop,
+    W: Wire,
+    L: Launcher,
+    P: Printer,
+    O: Outlet,
+    C: Clock,
+    N: Notices,
+>(
     alloc: Global,
     me: HostId,
     names: &[Name],
     disks: Disks<D>,
+    notices: &N,
     wire: &mut W,
     launcher: &mut L,
     printer: &mut P,
@@ -108,10 +125,8 @@ fn load_and_serve<D: Disk + Drop, W: Wire, L: Launcher, P: Printer, O: Outlet, C
 ) -> (NqsStatus, Disks<D>)
     requires quiet { IsTrue D.tells → (which : Which) → IsQuiet (histories_of D.history disks which) }
     ensures { Daemons D.tells me names.now turns
-        (outside (disks_told D.history D.faults disks) (wire_told W.received W.sent W.receive_faults W.send_faults wire.old)
-        (L.asked launcher.old) (P.prints printer.old) (O.filings outlet.old) (C.given clock.old))
-        (outside (disks_told D.history D.faults result.1) (wire_told W.received W.sent W.receive_faults W.send_faults wire.new)
-        (L.asked launcher.new) (P.prints printer.new) (O.filings outlet.new) (C.given clock.new))
+        (told_of D.Disk W.Wire L.Launcher P.Printer O.Outlet C.Clock disks wire.old launcher.old printer.old outlet.old clock.old)
+        (told_of D.Disk W.Wire L.Launcher P.Printer O.Outlet C.Clock result.1 wire.new launcher.new printer.new outlet.new clock.new)
         result.0 }
 {
     // The look comes behind the loading, which writes nothing, and before the boot, which keeps a
@@ -124,7 +139,7 @@ fn load_and_serve<D: Disk + Drop, W: Wire, L: Launcher, P: Printer, O: Outlet, C
                 return (NqsStatus::NotNqs, store.close());
             }
             boot_and_serve(
-                alloc, store, state, wire, launcher, printer, outlet, clock, turns,
+                alloc, store, state, notices, wire, launcher, printer, outlet, clock, turns,
             )
         }
     }
@@ -133,6 +148,7 @@ fn load_and_serve<D: Disk + Drop, W: Wire, L: Launcher, P: Printer, O: Outlet, C
 // Serves with the parts that were handed over.
 fn serve_with<M: Machine>(
     alloc: Global,
+    machine: &M,
     me: HostId,
     names: &[Name],
     parts: Parts<M>,
@@ -140,10 +156,10 @@ fn serve_with<M: Machine>(
 ) -> (NqsStatus, Parts<M>)
     requires quiet { IsTrue M.D.tells → (which : Which) → IsQuiet (histories_of M.D.history parts.disks which) }
     ensures { Daemons M.D.tells me names.now turns
-        (outside (disks_told M.D.history M.D.faults parts.disks) (wire_told M.W.received M.W.sent M.W.receive_faults M.W.send_faults parts.wire)
-        (M.L.asked parts.launcher) (M.P.prints parts.printer) (M.O.filings parts.outlet) (M.C.given parts.clock))
-        (outside (disks_told M.D.history M.D.faults result.1.disks) (wire_told M.W.received M.W.sent M.W.receive_faults M.W.send_faults result.1.wire)
-        (M.L.asked result.1.launcher) (M.P.prints result.1.printer) (M.O.filings result.1.outlet) (M.C.given result.1.clock))
+        (told_of M.D.Disk M.W.Wire M.L.Launcher M.P.Printer M.O.Outlet M.C.Clock
+        parts.disks parts.wire parts.launcher parts.printer parts.outlet parts.clock)
+        (told_of M.D.Disk M.W.Wire M.L.Launcher M.P.Printer M.O.Outlet M.C.Clock
+        result.1.disks result.1.wire result.1.launcher result.1.printer result.1.outlet result.1.clock)
         result.0 }
 {
     let Parts {
@@ -159,6 +175,7 @@ fn serve_with<M: Machine>(
         me,
         names,
         disks,
+        machine,
         &mut wire,
         &mut launcher,
         &mut printer,
@@ -186,17 +203,17 @@ pub(crate) fn daemon<M: Machine>(
     me: HostId,
     turns: u64,
 ) -> NqsStatus
-    ensures parts { (parts : Lists) × Extends (M.lent machine.old) (M.lent machine.new) parts.lent
-        × Extends (M.back machine.old) (M.back machine.new) parts.back
+    ensures parts { (parts : Lists) × Extends (M.told machine.old).lent (M.told machine.new).lent parts.lent
+        × Extends (M.told machine.old).back (M.told machine.new).back parts.back
         × (DoesDaemon M.D.tells (record { dir = dir.now; names = names.now; me = me }) turns parts result
-        ⊎ (IsWanting (M.faults machine.old) (M.faults machine.new) result
+        ⊎ (IsWanting (M.told machine.old).faults (M.told machine.new).faults result
         × ((port : ℕ) × (told : Outside) × BreaksOff (daemon_parts dir.now me port told) parts))) }
-    ensures later { M.faults machine.old ≤ M.faults machine.new }
+    ensures later { (M.told machine.old).faults ≤ (M.told machine.new).faults }
 {
     match lend(machine, dir, me) {
         Err(status) => status,
         Ok(parts) => {
-            let (status, parts) = serve_with(alloc, me, names, parts, turns);
+            let (status, parts) = serve_with(alloc, &*machine, me, names, parts, turns);
             give_back(machine, me, parts);
             status
         }

@@ -80,12 +80,12 @@ fn tend_named<M: Machine>(
 ) -> NqsStatus
     requires few { length site.now ≤ 16 }
     requires there { is_of_site (length site.now) host ≡ true }
-    ensures parts { (parts : Lists) × Extends (M.lent machine.old) (M.lent machine.new) parts.lent
-        × Extends (M.back machine.old) (M.back machine.new) parts.back
+    ensures parts { (parts : Lists) × Extends (M.told machine.old).lent (M.told machine.new).lent parts.lent
+        × Extends (M.told machine.old).back (M.told machine.new).back parts.back
         × (Tends (record { dir = dir.now; names = site.now; me = host }) (request_named site.now named.now) start parts result
-        ⊎ (IsWanting (M.faults machine.old) (M.faults machine.new) result
+        ⊎ (IsWanting (M.told machine.old).faults (M.told machine.new).faults result
         × ((all : List Lent) × Asks (record { dir = dir.now; names = site.now; me = host }) (Form.Shepherd named.now start) all × BreaksOff all parts))) }
-    ensures later { M.faults machine.old ≤ M.faults machine.new }
+    ensures later { (M.told machine.old).faults ≤ (M.told machine.new).faults }
 {
     match request_named(site, named) {
         None => NqsStatus::BadWords,
@@ -108,11 +108,12 @@ fn run_at<M: Machine, S: Source, K: Sink>(
     requires few { length site.now ≤ 16 }
     requires within { host.0 < length site.now }
     requires there { is_of_site (length site.now) host ≡ true }
-    ensures parts { (parts : Lists) × Extends (M.lent machine.old) (M.lent machine.new) parts.lent
-        × Extends (M.back machine.old) (M.back machine.new) parts.back
+    ensures parts { (parts : Lists) × Extends (M.told machine.old).lent (M.told machine.new).lent parts.lent
+        × Extends (M.told machine.old).back (M.told machine.new).back parts.back
         × DoesOrWants M.D.tells (record { dir = dir.now; names = site.now; me = host }) form (map (λ s. string_bytes s) words.now)
-        (fed S.left S.faults input.old input.new) (sunk K.taken K.faults K.stalls out.old out.new) (M.faults machine.old) (M.faults machine.new) parts result }
-    ensures later { M.faults machine.old ≤ M.faults machine.new }
+        (fed S.left S.faults input.old input.new) (sunk K.taken K.faults K.stalls out.old out.new)
+        (M.told machine.old).faults (M.told machine.new).faults parts result }
+    ensures later { (M.told machine.old).faults ≤ (M.told machine.new).faults }
 {
     match form {
         Form::Format => format(alloc, machine, dir, host, site),
@@ -135,11 +136,12 @@ fn run_named<M: Machine, S: Source, K: Sink>(
     out: &mut K,
 ) -> NqsStatus
     requires { length site.now ≤ 16 }
-    ensures parts { (parts : Lists) × Extends (M.lent machine.old) (M.lent machine.new) parts.lent
-        × Extends (M.back machine.old) (M.back machine.new) parts.back
+    ensures parts { (parts : Lists) × Extends (M.told machine.old).lent (M.told machine.new).lent parts.lent
+        × Extends (M.told machine.old).back (M.told machine.new).back parts.back
         × RunsAt M.D.tells dir.now site.now (host_named site.now name.now) form (map (λ s. string_bytes s) words.now)
-        (fed S.left S.faults input.old input.new) (sunk K.taken K.faults K.stalls out.old out.new) (M.faults machine.old) (M.faults machine.new) parts result }
-    ensures later { M.faults machine.old ≤ M.faults machine.new }
+        (fed S.left S.faults input.old input.new) (sunk K.taken K.faults K.stalls out.old out.new)
+        (M.told machine.old).faults (M.told machine.new).faults parts result }
+    ensures later { (M.told machine.old).faults ≤ (M.told machine.new).faults }
 {
     match host_named(site, name) {
         None => NqsStatus::BadWords,
@@ -158,11 +160,12 @@ fn run_in<M: Machine, S: Source, K: Sink>(
     input: &mut S,
     out: &mut K,
 ) -> NqsStatus
-    ensures parts { (parts : Lists) × Extends (M.lent machine.old) (M.lent machine.new) parts.lent
-        × Extends (M.back machine.old) (M.back machine.new) parts.back
+    ensures parts { (parts : Lists) × Extends (M.told machine.old).lent (M.told machine.new).lent parts.lent
+        × Extends (M.told machine.old).back (M.told machine.new).back parts.back
         × RunsForm M.D.tells dir.now name.now form (map (λ s. string_bytes s) words.now)
-        (fed S.left S.faults input.old input.new) (sunk K.taken K.faults K.stalls out.old out.new) (M.faults machine.old) (M.faults machine.new) parts result }
-    ensures later { M.faults machine.old ≤ M.faults machine.new }
+        (fed S.left S.faults input.old input.new) (sunk K.taken K.faults K.stalls out.old out.new)
+        (M.told machine.old).faults (M.told machine.new).faults parts result }
+    ensures later { (M.told machine.old).faults ≤ (M.told machine.new).faults }
 {
     let site = match machine.site(dir) {
         Ok(site) => site,
@@ -181,11 +184,12 @@ fn run_form<M: Machine, S: Source, K: Sink>(
     input: &mut S,
     out: &mut K,
 ) -> NqsStatus
-    ensures parts { (parts : Lists) × Extends (M.lent machine.old) (M.lent machine.new) parts.lent
-        × Extends (M.back machine.old) (M.back machine.new) parts.back
+    ensures parts { (parts : Lists) × Extends (M.told machine.old).lent (M.told machine.new).lent parts.lent
+        × Extends (M.told machine.old).back (M.told machine.new).back parts.back
         × RunsWords M.D.tells (Some form) (map (λ s. string_bytes s) words.now)
-        (fed S.left S.faults input.old input.new) (sunk K.taken K.faults K.stalls out.old out.new) (M.faults machine.old) (M.faults machine.new) parts result }
-    ensures later { M.faults machine.old ≤ M.faults machine.new }
+        (fed S.left S.faults input.old input.new) (sunk K.taken K.faults K.stalls out.old out.new)
+        (M.told machine.old).faults (M.told machine.new).faults parts result }
+    ensures later { (M.told machine.old).faults ≤ (M.told machine.new).faults }
 {
     let Some((_, more)) = words.split_first() else {
         return NqsStatus::BadWords;
@@ -209,11 +213,12 @@ pub fn run<M: Machine, S: Source, K: Sink>(
     input: &mut S,
     out: &mut K,
 ) -> NqsStatus
-    ensures parts { (parts : Lists) × Extends (M.lent machine.old) (M.lent machine.new) parts.lent
-        × Extends (M.back machine.old) (M.back machine.new) parts.back
+    ensures parts { (parts : Lists) × Extends (M.told machine.old).lent (M.told machine.new).lent parts.lent
+        × Extends (M.told machine.old).back (M.told machine.new).back parts.back
         × Runs M.D.tells (map (λ s. string_bytes s) words.now)
-        (fed S.left S.faults input.old input.new) (sunk K.taken K.faults K.stalls out.old out.new) (M.faults machine.old) (M.faults machine.new) parts result }
-    ensures later { M.faults machine.old ≤ M.faults machine.new }
+        (fed S.left S.faults input.old input.new) (sunk K.taken K.faults K.stalls out.old out.new)
+        (M.told machine.old).faults (M.told machine.new).faults parts result }
+    ensures later { (M.told machine.old).faults ≤ (M.told machine.new).faults }
 {
     match read_form(words) {
         None => NqsStatus::BadWords,

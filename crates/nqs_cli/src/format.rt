@@ -1,8 +1,6 @@
 //! `nqs format`: the empty disks of a host become those of a host that has nothing.
 
 ghost use Rattle.std.specs.Prelude.{◌≡◌, ◌⊎◌, ◌≤◌, ◌<◌, nat_lt, false, IsTrue, IfOk, IfErr, OnErr, length};
-ghost use Rattle.std.specs.List.{AllByRecursion};
-ghost use Rattle.nqs_base.specs.Name.{IsName};
 ghost use Rattle.nqs_types.specs.declared.world.Which.{Which};
 ghost use Rattle.nqs_outside.specs.Causes.{Rose};
 ghost use Rattle.nqs_outside.specs.History.{content};
@@ -59,7 +57,7 @@ fn format_empty<D: Disk>(
 ) -> NqsStatus
     requires within { me.0 < length site.now }
     requires few { length site.now ≤ 16 }
-    ensures { Formats D.tells me site.now (disks_told D.history D.faults disks.old) (disks_told D.history D.faults disks.new) result }
+    ensures { Formats D.tells me site.now (disks_told D.Disk disks.old) (disks_told D.Disk disks.new) result }
 {
     match have_bytes(disks) {
         Err(status) => return status,
@@ -85,11 +83,11 @@ pub(crate) fn format<M: Machine>(
 ) -> NqsStatus
     requires within { me.0 < length site.now }
     requires few { length site.now ≤ 16 }
-    ensures parts { (parts : Lists) × Extends (M.lent machine.old) (M.lent machine.new) parts.lent
-        × Extends (M.back machine.old) (M.back machine.new) parts.back
+    ensures parts { (parts : Lists) × Extends (M.told machine.old).lent (M.told machine.new).lent parts.lent
+        × Extends (M.told machine.old).back (M.told machine.new).back parts.back
         × (DoesFormat M.D.tells (record { dir = dir.now; names = site.now; me = me }) parts result
-        ⊎ (IsWanting (M.faults machine.old) (M.faults machine.new) result × (parts ≡ no_parts))) }
-    ensures later { M.faults machine.old ≤ M.faults machine.new }
+        ⊎ (IsWanting (M.told machine.old).faults (M.told machine.new).faults result × (parts ≡ no_parts))) }
+    ensures later { (M.told machine.old).faults ≤ (M.told machine.new).faults }
 {
     match machine.disks(dir, me) {
         Err(end) => status_of_end(end),

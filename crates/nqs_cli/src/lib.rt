@@ -19,5 +19,5 @@ mod real;
 pub use dispatch::run;
 pub use entry::program;
 pub use form::{Form, read_form};
-pub use machine::{Machine, MachineEnd};
+pub use machine::{Machine, MachineEnd, Notices};
 pub use real::RealMachine;

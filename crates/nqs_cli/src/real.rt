@@ -3,18 +3,19 @@
 //! It does nothing but read the site's file, make the adapters and take them back. It is trusted to
 //! hand out the parts of the folder and the host that it is asked for.
 
-ghost use Rattle.std.specs.Prelude.{◌≡◌, ◌≤◌, [], ◌∷◌, None, length, IfOk, IsErrOf};
-ghost use Rattle.nqs_outside.specs.Told.{Extends};
+ghost use Rattle.std.specs.Prelude.{◌≡◌, ◌≤◌, [], None, length, IfOk, IsErrOf};
 ghost use Rattle.nqs_outside.specs.Causes.{Rose};
 
-use crate::machine::{Machine, MachineEnd};
+use crate::machine::{Machine, MachineEnd, Notices};
 use nqs_base::{Memory, NameList};
 use nqs_real::{
     FileDisk, FileOutlet, FilePrinter, HostLock, ShellRunner, ShepherdLauncher, SiteFault,
     SiteHost, SystemClock, UdpWire, make_host_folder, names_of, open_disks, own_program, read_site,
+    tell_boot,
 };
+use nqs_state::HostState;
 use nqs_store::Disks;
-use nqs_types::HostId;
+use nqs_types::{HostId, Output};
 use std::alloc::AllocError;
 use std::fs::File;
 use std::io;
@@ -174,8 +175,15 @@ impl RealMachine {
     }
 }
 
+impl Notices for RealMachine {
+    fn booted(&self, state: &HostState, said: &[Output]) {
+        tell_boot(&self.rt, state.site.as_slice(), said);
+    }
+}
+
 impl Machine for RealMachine {
-    ghost use Rattle.nqs_cli.specs.Parts.{Lent, Back, disks_told, disks_back};
+    ghost use Rattle.nqs_store.specs.Disks.{disk_at};
+    ghost use Rattle.nqs_cli.specs.Parts.{TakesBack, disks_back};
 
     type D = FileDisk;
 
@@ -191,11 +199,7 @@ impl Machine for RealMachine {
 
     type R = ShellRunner;
 
-    ghost lent = { λ _. None };
-
-    ghost back = { λ _. None };
-
-    ghost faults = { λ machine. machine.faults };
+    ghost told = { λ machine. record { lent = None; back = None; faults = machine.faults } };
 
     fn site(&mut self, dir: &str) -> Result<NameList, MachineEnd> {
         match self.names(dir) {
@@ -239,9 +243,8 @@ impl Machine for RealMachine {
     }
 
     fn disks_back(&mut self, host: HostId, part: Disks<FileDisk>)
-        ensures back { Extends {A = Back} None None (disks_back host (disks_told (λ _. record { start = []; calls = [] }) (λ d. d.faults) part) ∷ []) }
-        ensures lent { Extends {A = Lent} None None [] }
-        ensures later { self.old.faults ≤ self.new.faults }
+        ensures { TakesBack (record { lent = None; back = None; faults = self.old.faults }) (record { lent = None; back = None; faults = self.new.faults })
+            (disks_back host (record { histories = λ which. record { start = []; calls = [] }; faults = λ which. (disk_at which part).faults })) }
     {
         let _ = host;
         drop(part);

@@ -2,7 +2,7 @@
 //! hosts have the same disks, which stay from one run to the next; the other parts are new each
 //! time.
 
-ghost use Rattle.std.specs.Prelude.{◌≡◌, ◌≤◌, ◌<◌, ◌+◌, ◌∷◌, [], false, IfOk, OnOk, IsErrOf, None, length};
+ghost use Rattle.std.specs.Prelude.{◌≡◌, ◌≤◌, ◌<◌, ◌+◌, IfOk, OnOk, IsErrOf, None, length};
 ghost use Rattle.nqs_types.specs.declared.world.Which.{Which};
 ghost use Rattle.nqs_outside.specs.Causes.{Rose};
 ghost use Rattle.nqs_outside.specs.History.{IsQuiet};
@@ -10,12 +10,13 @@ ghost use Rattle.nqs_disk.specs.MemDisk.{history_of};
 ghost use Rattle.nqs_store.specs.Disks.{disk_at};
 
 use nqs_base::{Bytes, Items, Memory, Name, NameList, Tear};
-use nqs_cli::{Machine, MachineEnd};
+use nqs_cli::{Machine, MachineEnd, Notices};
 use nqs_disk::{Lack, MemDisk};
 use nqs_fakes::{Item, MemLauncher, MemOutlet, MemPrinter, MemRunner, MemWire};
 use nqs_outside::{Clock, Disk, RunEnd};
+use nqs_state::HostState;
 use nqs_store::Disks;
-use nqs_types::HostId;
+use nqs_types::{HostId, Output};
 use std::alloc::Global;
 
 /// How many parts were handed out and came back.
@@ -227,9 +228,13 @@ impl Clock for StoppedClock {
     }
 }
 
+// It has no operator.
+impl Notices for MemMachine {
+    fn booted(&self, _state: &HostState, _said: &[Output]) {}
+}
+
 impl Machine for MemMachine {
-    ghost use Rattle.nqs_cli.specs.Parts.{Lent, Back, disks_told, disks_back};
-    ghost use Rattle.nqs_outside.specs.Told.{Extends};
+    ghost use Rattle.nqs_cli.specs.Parts.{TakesBack, disks_back};
     ghost use Rattle.nqs_disk.specs.MemDisk.{faults_of};
 
     type D = MemDisk;
@@ -246,11 +251,7 @@ impl Machine for MemMachine {
 
     type R = MemRunner;
 
-    ghost lent = { λ _. None };
-
-    ghost back = { λ _. None };
-
-    ghost faults = { λ machine. machine.faults };
+    ghost told = { λ machine. record { lent = None; back = None; faults = machine.faults } };
 
     fn site(&mut self, dir: &str) -> Result<NameList, MachineEnd> {
         self.ask()?;
@@ -324,9 +325,8 @@ impl Machine for MemMachine {
     }
 
     fn disks_back(&mut self, host: HostId, part: Disks<MemDisk>)
-        ensures back { Extends {A = Back} None None (disks_back host (disks_told history_of faults_of part) ∷ []) }
-        ensures lent { Extends {A = Lent} None None [] }
-        ensures later { self.old.faults ≤ self.new.faults }
+        ensures { TakesBack (record { lent = None; back = None; faults = self.old.faults }) (record { lent = None; back = None; faults = self.new.faults })
+            (disks_back host (record { histories = λ which. history_of (disk_at which part); faults = λ which. faults_of (disk_at which part) })) }
     {
         let _ = host;
         self.disks = Some(part);

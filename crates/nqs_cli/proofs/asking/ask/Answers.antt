@@ -21,8 +21,8 @@ returns-in-Err-wire-clause-parts g c = (
 
 pub returns-clause-parts : goal.returns-clause-parts
 returns-clause-parts g c =
-    let was = wire_told g.M.W.Wire.received g.M.W.Wire.sent g.M.W.Wire.receive_faults g.M.W.Wire.send_faults c.in-Ok-wire.wire in
-    let now = wire_told g.M.W.Wire.received g.M.W.Wire.sent g.M.W.Wire.receive_faults g.M.W.Wire.send_faults c.client-status.new.wire in
+    let was = wire_told g.M.W.Wire c.in-Ok-wire.wire in
+    let now = wire_told g.M.W.Wire c.client-status.new.wire in
     let port = c.in-Ok-wire.port in (
       lent_and_back (wire_of c.args.dir.now None port was ∷ []) (wire_of c.args.dir.now None port now ∷ []),
       extends_then _ _ _ _ _ c.in-Ok-wire.ensures.lent c.wire_back.ensures.lent,

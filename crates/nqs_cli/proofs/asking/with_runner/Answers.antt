@@ -6,8 +6,8 @@ use Rattle.nqs_cli.proofs.asking.with_runner.Goals as goal
 pub returns-in-Ok-clause-parts : goal.returns-in-Ok-clause-parts
 returns-in-Ok-clause-parts g c = inl (
   c.in-Ok.port,
-  wire_told g.M.W.Wire.received g.M.W.Wire.sent g.M.W.Wire.receive_faults g.M.W.Wire.send_faults c.in-Ok.wire,
-  wire_told g.M.W.Wire.received g.M.W.Wire.sent g.M.W.Wire.receive_faults g.M.W.Wire.send_faults c.shepherd-end.new.wire,
+  wire_told g.M.W.Wire c.in-Ok.wire,
+  wire_told g.M.W.Wire c.shepherd-end.new.wire,
   c.shepherd-end.result,
   extends_then _ _ _ _ _ c.in-Ok.ensures.lent c.wire_back.ensures.lent,
   extends_then _ _ _ _ _ c.in-Ok.ensures.back c.wire_back.ensures.back,

@@ -10,8 +10,7 @@ use Rattle.nqs_serve.specs.Events.{Here}
 use Rattle.nqs_serve.specs.Moments.{TellsThroughout, IsPassed}
 use Rattle.nqs_serve.specs.Nodes.{IsAt}
 use Rattle.nqs_serve.specs.Runs.{idle, Ran}
-use Rattle.nqs_cli.specs.Parts.{disks_told, wire_told}
-use Rattle.nqs_cli.specs.Daemons.{Outside, outside, telling_of, here_of, Leaves}
+use Rattle.nqs_cli.specs.Daemons.{Outside, told_of, telling_of, here_of, Leaves}
 use Rattle.nqs_cli.proofs.Serving.{leaves, ends_as, since_boot, not_booted, has_served}
 use Rattle.nqs_cli.proofs.daemon.boot_and_serve.Goals as goal
 
@@ -26,14 +25,10 @@ serve-end-requires-clause-running g c = let loaded = c.requires.loaded in (c.in-
 
 pub returns-in-Err : goal.returns-in-Err
 returns-in-Err g c = λ me names disks loaded here.
-    let was : Outside = outside (disks_told g.D.Disk.history g.D.Disk.faults disks)
-    (wire_told g.W.Wire.received g.W.Wire.sent g.W.Wire.receive_faults g.W.Wire.send_faults c.args.wire.now)
-    (g.L.Launcher.asked c.args.launcher.now) (g.P.Printer.prints c.args.printer.now) (g.O.Outlet.filings c.args.outlet.now)
-    (g.C.Clock.given c.args.clock.now) in
-    let now : Outside = outside (disks_told g.D.Disk.history g.D.Disk.faults c.in-Err.disks)
-    (wire_told g.W.Wire.received g.W.Wire.sent g.W.Wire.receive_faults g.W.Wire.send_faults c.args.wire.now)
-    (g.L.Launcher.asked c.args.launcher.now) (g.P.Printer.prints c.args.printer.now) (g.O.Outlet.filings c.args.outlet.now)
-    (g.C.Clock.given c.args.clock.now) in
+    let was : Outside = told_of g.D.Disk g.W.Wire g.L.Launcher g.P.Printer g.O.Outlet g.C.Clock disks
+    c.args.wire.now c.args.launcher.now c.args.printer.now c.args.outlet.now c.args.clock.now in
+    let now : Outside = told_of g.D.Disk g.W.Wire g.L.Launcher g.P.Printer g.O.Outlet g.C.Clock c.in-Err.disks
+    c.args.wire.now c.args.launcher.now c.args.printer.now c.args.outlet.now c.args.clock.now in
     let unbooted = c.in-Err.ensures.unbooted disks loaded in
     not_booted g.D.Disk.tells me names c.args.turns was now c.in-Err.fault c.status_of_fault.result c.status_of_fault.ensures (refl, refl)
     unbooted.failed
@@ -43,14 +38,10 @@ returns-in-Err g c = λ me names disks loaded here.
 
 pub returns : goal.returns
 returns g c = λ me names disks loaded here.
-    let was : Outside = outside (disks_told g.D.Disk.history g.D.Disk.faults disks)
-    (wire_told g.W.Wire.received g.W.Wire.sent g.W.Wire.receive_faults g.W.Wire.send_faults c.args.wire.now)
-    (g.L.Launcher.asked c.args.launcher.now) (g.P.Printer.prints c.args.printer.now) (g.O.Outlet.filings c.args.outlet.now)
-    (g.C.Clock.given c.args.clock.now) in
-    let now : Outside = outside (disks_told g.D.Disk.history g.D.Disk.faults c.close.result)
-    (wire_told g.W.Wire.received g.W.Wire.sent g.W.Wire.receive_faults g.W.Wire.send_faults c.serve-end.new.wire)
-    (g.L.Launcher.asked c.serve-end.new.launcher) (g.P.Printer.prints c.serve-end.new.printer) (g.O.Outlet.filings c.serve-end.new.outlet)
-    (g.C.Clock.given c.serve-end.new.clock) in
+    let was : Outside = told_of g.D.Disk g.W.Wire g.L.Launcher g.P.Printer g.O.Outlet g.C.Clock disks
+    c.args.wire.now c.args.launcher.now c.args.printer.now c.args.outlet.now c.args.clock.now in
+    let now : Outside = told_of g.D.Disk g.W.Wire g.L.Launcher g.P.Printer g.O.Outlet g.C.Clock c.close.result
+    c.serve-end.new.wire c.serve-end.new.launcher c.serve-end.new.printer c.serve-end.new.outlet c.serve-end.new.clock in
     let booted = c.in-Ok.ensures.booted disks loaded in
     has_served g.D.Disk.tells me names c.args.turns was now c.serve-end.result c.status_of_serve.result c.status_of_serve.ensures
     (λ yes.

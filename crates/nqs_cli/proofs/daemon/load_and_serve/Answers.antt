@@ -2,8 +2,7 @@ use Rattle.std.proofs.Common.{◌∙◌, inr, refl, sym, ap}
 use Rattle.nqs_state.specs.State.{content}
 use Rattle.nqs_store.specs.Stores.{bytes_of, plain_of}
 use Rattle.nqs_node.proofs.Booting.{told_when_loaded}
-use Rattle.nqs_cli.specs.Parts.{disks_told, wire_told}
-use Rattle.nqs_cli.specs.Daemons.{Outside, outside}
+use Rattle.nqs_cli.specs.Daemons.{Outside, told_of}
 use Rattle.nqs_cli.proofs.Serving.{not_loaded}
 use Rattle.nqs_cli.proofs.daemon.load_and_serve.Goals as goal
 
@@ -12,14 +11,10 @@ boot_and_serve-requires g c = record { loaded = (c.args.disks, c.in-Ok.ensures) 
 
 pub returns-in-Err : goal.returns-in-Err
 returns-in-Err g c =
-    let was : Outside = outside (disks_told g.D.Disk.history g.D.Disk.faults c.args.disks)
-    (wire_told g.W.Wire.received g.W.Wire.sent g.W.Wire.receive_faults g.W.Wire.send_faults c.args.wire.now)
-    (g.L.Launcher.asked c.args.launcher.now) (g.P.Printer.prints c.args.printer.now) (g.O.Outlet.filings c.args.outlet.now)
-    (g.C.Clock.given c.args.clock.now) in
-    let now : Outside = outside (disks_told g.D.Disk.history g.D.Disk.faults c.in-Err.disks)
-    (wire_told g.W.Wire.received g.W.Wire.sent g.W.Wire.receive_faults g.W.Wire.send_faults c.args.wire.now)
-    (g.L.Launcher.asked c.args.launcher.now) (g.P.Printer.prints c.args.printer.now) (g.O.Outlet.filings c.args.outlet.now)
-    (g.C.Clock.given c.args.clock.now) in
+    let was : Outside = told_of g.D.Disk g.W.Wire g.L.Launcher g.P.Printer g.O.Outlet g.C.Clock c.args.disks
+    c.args.wire.now c.args.launcher.now c.args.printer.now c.args.outlet.now c.args.clock.now in
+    let now : Outside = told_of g.D.Disk g.W.Wire g.L.Launcher g.P.Printer g.O.Outlet g.C.Clock c.in-Err.disks
+    c.args.wire.now c.args.launcher.now c.args.printer.now c.args.outlet.now c.args.clock.now in
     not_loaded g.D.Disk.tells c.args.me c.args.names.now c.args.turns was now c.in-Err.fault c.status_of_fault.result c.status_of_fault.ensures (refl, refl)
     c.requires.quiet c.in-Err.ensures.reads.same (λ which is. (c.in-Err.ensures.failed which is).rose) c.in-Err.ensures.fault
 

@@ -16,7 +16,7 @@ returns-in-Format-clause-parts g c =
       did.1,
       did.2,
       subst (λ (f : Form). DoesOrWants g.M.D.Disk.tells at f (map (λ s. string_bytes s) c.args.words.now) source sink
-          (g.M.Machine.faults c.args.machine.now) (g.M.Machine.faults c.format.new.machine) did.0 c.format.result) (sym c.in-Format.is)
+          (g.M.Machine.told c.args.machine.now).faults (g.M.Machine.told c.format.new.machine).faults did.0 c.format.result) (sym c.in-Format.is)
           (elim did.3 [
             | inl done ↦ inl (done, ((refl, refl), (refl, refl, refl)))
             | inr wants ↦ inr (wants.0, ((refl, refl), (refl, refl, refl)), (disks_of at.dir at.me no_disks ∷ [], (no_disks, refl), (0, omega arith, wants.1)))
@@ -33,7 +33,7 @@ returns-in-Client-clause-parts g c =
       did.1,
       did.2,
       subst (λ (f : Form). DoesOrWants g.M.D.Disk.tells at f (map (λ s. string_bytes s) c.args.words.now) source sink
-          (g.M.Machine.faults c.args.machine.now) (g.M.Machine.faults c.ask.new.machine) did.0 c.ask.result) (sym c.in-Client.is)
+          (g.M.Machine.told c.args.machine.now).faults (g.M.Machine.told c.ask.new.machine).faults did.0 c.ask.result) (sym c.in-Client.is)
           (elim did.3 [
             | inl done ↦ inl done
             | inr wants ↦ inr (wants.0, wants.2, (wire_of at.dir None 0 no_wire ∷ [], (0, no_wire, refl), (0, omega arith, wants.1)))

@@ -14,8 +14,8 @@ returns-in_default-clause-parts g c =
       extends_none _,
       subst (λ (l : List (String Global)). RunsWords g.M.D.Disk.tells (Some c.args.form) (map (λ s. string_bytes s) l)
           (fed g.S.Source.left g.S.Source.faults c.args.input.now c.args.input.now)
-          (sunk g.K.Sink.taken g.K.Sink.faults g.K.Sink.stalls c.args.out.now c.args.out.now) (g.M.Machine.faults c.args.machine.now)
-          (g.M.Machine.faults c.args.machine.now) no_parts BadWords) (sym whole) (refl, refl, ((refl, refl), (refl, refl, refl))),
+          (sunk g.K.Sink.taken g.K.Sink.faults g.K.Sink.stalls c.args.out.now c.args.out.now) (g.M.Machine.told c.args.machine.now).faults
+          (g.M.Machine.told c.args.machine.now).faults no_parts BadWords) (sym whole) (refl, refl, ((refl, refl), (refl, refl, refl))),
     )
 
 pub returns-in_default-split_first-clause-parts : goal.returns-in_default-split_first-clause-parts
@@ -28,8 +28,8 @@ returns-in_default-split_first-clause-parts g c =
       extends_none _,
       subst (λ (l : List (String Global)). RunsWords g.M.D.Disk.tells (Some c.args.form) (map (λ s. string_bytes s) l)
           (fed g.S.Source.left g.S.Source.faults c.args.input.now c.args.input.now)
-          (sunk g.K.Sink.taken g.K.Sink.faults g.K.Sink.stalls c.args.out.now c.args.out.now) (g.M.Machine.faults c.args.machine.now)
-          (g.M.Machine.faults c.args.machine.now) no_parts BadWords) (sym whole) (refl, refl, ((refl, refl), (refl, refl, refl))),
+          (sunk g.K.Sink.taken g.K.Sink.faults g.K.Sink.stalls c.args.out.now c.args.out.now) (g.M.Machine.told c.args.machine.now).faults
+          (g.M.Machine.told c.args.machine.now).faults no_parts BadWords) (sym whole) (refl, refl, ((refl, refl), (refl, refl, refl))),
     )
 
 pub returns-in_default-split_first-2-clause-parts : goal.returns-in_default-split_first-2-clause-parts
@@ -45,8 +45,8 @@ returns-in_default-split_first-2-clause-parts g c =
       extends_none _,
       subst (λ (l : List (String Global)). RunsWords g.M.D.Disk.tells (Some c.args.form) (map (λ s. string_bytes s) l)
           (fed g.S.Source.left g.S.Source.faults c.args.input.now c.args.input.now)
-          (sunk g.K.Sink.taken g.K.Sink.faults g.K.Sink.stalls c.args.out.now c.args.out.now) (g.M.Machine.faults c.args.machine.now)
-          (g.M.Machine.faults c.args.machine.now) no_parts BadWords) (sym whole) (refl, refl, ((refl, refl), (refl, refl, refl))),
+          (sunk g.K.Sink.taken g.K.Sink.faults g.K.Sink.stalls c.args.out.now c.args.out.now) (g.M.Machine.told c.args.machine.now).faults
+          (g.M.Machine.told c.args.machine.now).faults no_parts BadWords) (sym whole) (refl, refl, ((refl, refl), (refl, refl, refl))),
     )
 
 pub returns-clause-parts : goal.returns-clause-parts
@@ -61,21 +61,21 @@ returns-clause-parts g c =
     (c.in-Some-split_first.ensures.cases.0 ∙ ap (λ (l : List (String Global)). dir ∷ l) c.in-Some-split_first-2.ensures.cases.0) in
     let at_dir = subst (λ (d : List ℕ). RunsForm g.M.D.Disk.tells d c.deref-2.result.now c.args.form (map (λ s. string_bytes s) c.args.words.now)
     (fed g.S.Source.left g.S.Source.faults c.args.input.now c.run_in.new.input)
-    (sunk g.K.Sink.taken g.K.Sink.faults g.K.Sink.stalls c.args.out.now c.run_in.new.out) (g.M.Machine.faults c.args.machine.now)
-    (g.M.Machine.faults c.run_in.new.machine) did.0 c.run_in.result) c.deref.ensures did.3 in
+    (sunk g.K.Sink.taken g.K.Sink.faults g.K.Sink.stalls c.args.out.now c.run_in.new.out) (g.M.Machine.told c.args.machine.now).faults
+    (g.M.Machine.told c.run_in.new.machine).faults did.0 c.run_in.result) c.deref.ensures did.3 in
     let at_name = subst (λ (n : List ℕ). RunsForm g.M.D.Disk.tells (string_bytes dir) n c.args.form (map (λ s. string_bytes s) c.args.words.now)
     (fed g.S.Source.left g.S.Source.faults c.args.input.now c.run_in.new.input)
-    (sunk g.K.Sink.taken g.K.Sink.faults g.K.Sink.stalls c.args.out.now c.run_in.new.out) (g.M.Machine.faults c.args.machine.now)
-    (g.M.Machine.faults c.run_in.new.machine) did.0 c.run_in.result) c.deref-2.ensures at_dir in
+    (sunk g.K.Sink.taken g.K.Sink.faults g.K.Sink.stalls c.args.out.now c.run_in.new.out) (g.M.Machine.told c.args.machine.now).faults
+    (g.M.Machine.told c.run_in.new.machine).faults did.0 c.run_in.result) c.deref-2.ensures at_dir in
     let all = subst (λ (l : List (String Global)). RunsForm g.M.D.Disk.tells (string_bytes dir) (string_bytes name) c.args.form (map (λ s. string_bytes s) l)
     (fed g.S.Source.left g.S.Source.faults c.args.input.now c.run_in.new.input)
-    (sunk g.K.Sink.taken g.K.Sink.faults g.K.Sink.stalls c.args.out.now c.run_in.new.out) (g.M.Machine.faults c.args.machine.now)
-    (g.M.Machine.faults c.run_in.new.machine) did.0 c.run_in.result) whole at_name in (
+    (sunk g.K.Sink.taken g.K.Sink.faults g.K.Sink.stalls c.args.out.now c.run_in.new.out) (g.M.Machine.told c.args.machine.now).faults
+    (g.M.Machine.told c.run_in.new.machine).faults did.0 c.run_in.result) whole at_name in (
       did.0,
       did.1,
       did.2,
       subst (λ (l : List (String Global)). RunsWords g.M.D.Disk.tells (Some c.args.form) (map (λ s. string_bytes s) l)
           (fed g.S.Source.left g.S.Source.faults c.args.input.now c.run_in.new.input)
-          (sunk g.K.Sink.taken g.K.Sink.faults g.K.Sink.stalls c.args.out.now c.run_in.new.out) (g.M.Machine.faults c.args.machine.now)
-          (g.M.Machine.faults c.run_in.new.machine) did.0 c.run_in.result) (sym whole) all,
+          (sunk g.K.Sink.taken g.K.Sink.faults g.K.Sink.stalls c.args.out.now c.run_in.new.out) (g.M.Machine.told c.args.machine.now).faults
+          (g.M.Machine.told c.run_in.new.machine).faults did.0 c.run_in.result) (sym whole) all,
     )

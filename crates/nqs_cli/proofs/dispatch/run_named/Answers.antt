@@ -13,8 +13,8 @@ returns-in-None-clause-parts g c = (
   extends_none _,
   subst (λ (h : Option HostId). RunsAt g.M.D.Disk.tells c.args.dir.now c.args.site.now h c.args.form (map (λ s. string_bytes s) c.args.words.now)
       (fed g.S.Source.left g.S.Source.faults c.args.input.now c.args.input.now)
-      (sunk g.K.Sink.taken g.K.Sink.faults g.K.Sink.stalls c.args.out.now c.args.out.now) (g.M.Machine.faults c.args.machine.now)
-      (g.M.Machine.faults c.args.machine.now) no_parts BadWords) c.in-None.ensures.host (refl, refl, ((refl, refl), (refl, refl, refl))),
+      (sunk g.K.Sink.taken g.K.Sink.faults g.K.Sink.stalls c.args.out.now c.args.out.now) (g.M.Machine.told c.args.machine.now).faults
+      (g.M.Machine.told c.args.machine.now).faults no_parts BadWords) c.in-None.ensures.host (refl, refl, ((refl, refl), (refl, refl, refl))),
 )
 
 pub returns-in-Some-clause-parts : goal.returns-in-Some-clause-parts
@@ -25,6 +25,6 @@ returns-in-Some-clause-parts g c =
       did.2,
       subst (λ (h : Option HostId). RunsAt g.M.D.Disk.tells c.args.dir.now c.args.site.now h c.args.form
           (map (λ s. string_bytes s) c.args.words.now) (fed g.S.Source.left g.S.Source.faults c.args.input.now c.run_at.new.input)
-          (sunk g.K.Sink.taken g.K.Sink.faults g.K.Sink.stalls c.args.out.now c.run_at.new.out) (g.M.Machine.faults c.args.machine.now)
-          (g.M.Machine.faults c.run_at.new.machine) did.0 c.run_at.result) c.in-Some.ensures.host did.3,
+          (sunk g.K.Sink.taken g.K.Sink.faults g.K.Sink.stalls c.args.out.now c.run_at.new.out) (g.M.Machine.told c.args.machine.now).faults
+          (g.M.Machine.told c.run_at.new.machine).faults did.0 c.run_at.result) c.in-Some.ensures.host did.3,
     )
