@@ -7,6 +7,7 @@ ghost use Rattle.nqs_real.specs.Names.{job_text};
 use crate::counted::counted;
 use crate::folder::{host_text, jobs_path, make_folder, make_private, path_in, request_text};
 use crate::leftovers::{end_job, end_jobs, put_mark};
+use crate::notices::tell_failed;
 use crate::order::order_text;
 use crate::program::{add_words, start_quietly};
 use crate::site::SiteHost;
@@ -234,6 +235,7 @@ impl Launcher for ShepherdLauncher {
 
     fn launch(&mut self, order: &LaunchOrder, script: &[u8]) -> Result<(), Failed> {
         let made = self.begin(order, script);
+        tell_failed(&self.rt, &self.site, order.id, "wasn't launched", &made);
         counted(made, &mut self.faults)
     }
 

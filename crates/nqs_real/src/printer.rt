@@ -5,6 +5,7 @@ ghost use Rattle.std.specs.Prelude.{◌≡◌, None, IfOk};
 use crate::counted::counted;
 use crate::folder::{make_folder, name_text, path_in};
 use crate::launcher::job_name;
+use crate::notices::tell_failed;
 use crate::put::put_file;
 use crate::site::SiteHost;
 use nqs_base::Name;
@@ -52,6 +53,7 @@ impl Printer for FilePrinter {
 
     fn print(&mut self, device: &Name, order: &LaunchOrder, bytes: &[u8]) -> Result<(), Failed> {
         let made = self.put(device, order, bytes);
+        tell_failed(&self.rt, &self.site, order.id, "wasn't printed", &made);
         counted(made, &mut self.faults)
     }
 }
