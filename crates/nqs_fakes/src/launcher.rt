@@ -1,6 +1,6 @@
 //! A launcher in memory, which starts nothing.
 
-ghost use Rattle.std.specs.Prelude.{◌≡◌, ◌∷◌, [], Some, false, map, is_ok};
+ghost use Rattle.std.specs.Prelude.{◌≡◌, ◌≤◌, ◌+◌, ◌-◌, ◌^◌, ◌∷◌, [], Some, false, map, min, is_ok};
 ghost use Rattle.nqs_outside.specs.Causes.{HasCause};
 ghost use Rattle.nqs_outside.specs.Told.{Extends};
 ghost use Rattle.nqs_outside.specs.Asked.{launched, killed};
@@ -33,6 +33,7 @@ pub struct MemLauncher {
     alloc: Global,
     kept: Items<LauncherCall>,
     calls: Failures,
+    tended: u64,
     starved: bool,
 }
 
@@ -44,6 +45,7 @@ impl Drop for MemLauncher {
             alloc: _,
             kept: _,
             calls: _,
+            tended: _,
             starved: _,
         } = self;
     }
@@ -58,13 +60,22 @@ impl MemLauncher {
         ensures numbers { result.calls.numbers.items ≡ failing.items }
         ensures calls { result.calls.calls ≡ 0 }
         ensures faults { result.calls.faults ≡ 0 }
+        ensures tended { result.tended ≡ 0 }
     {
         MemLauncher {
             alloc,
             kept: Items::new(alloc),
             calls: Failures::new(failing),
+            tended: 0,
             starved: false,
         }
+    }
+
+    /// How often it was tended.
+    pub fn tended(&self) -> u64
+        ensures { result ≡ self.now.tended }
+    {
+        self.tended
     }
 
     /// What it was asked.
@@ -136,5 +147,15 @@ impl Launcher for MemLauncher {
             ok: answer.is_ok(),
         });
         answer
+    }
+
+    fn tend(&mut self)
+        ensures asked { Extends (asked_of self.old) (asked_of self.new) [] }
+        ensures calls { self.new.calls ≡ self.old.calls }
+        ensures later { self.old.calls.faults ≤ self.new.calls.faults }
+        ensures kept { self.new.kept ≡ self.old.kept }
+        ensures tended { self.new.tended ≡ min (self.old.tended + 1) (2 ^ 64 - 1) }
+    {
+        self.tended = self.tended.saturating_add(1);
     }
 }

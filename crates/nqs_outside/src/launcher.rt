@@ -27,4 +27,10 @@ pub trait Launcher {
     fn kill(&mut self, id: RequestId, start: u16) -> Result<(), Failed>
         ensures asked { Extends (asked self.old) (asked self.new) (killed id start (is_ok result) ∷ []) }
         ensures cause { HasCause (faults self.old) (faults self.new) result };
+
+    /// Tries once more what it was asked to start or to end and a shortage of the system has kept
+    /// back. It is asked for nothing by it.
+    fn tend(&mut self)
+        ensures asked { Extends (asked self.old) (asked self.new) [] }
+        ensures later { faults self.old ≤ faults self.new };
 }

@@ -244,4 +244,8 @@ impl Launcher for ShepherdLauncher {
         let made = self.write_kill(id, start);
         counted(made, &mut self.faults)
     }
+
+    fn tend(&mut self) {
+        self.sweep();
+    }
 }

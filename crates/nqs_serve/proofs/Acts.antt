@@ -189,12 +189,20 @@ cut_back here acts start u e x queue rest m os a b c split is ran grew =
     ran_then here acts [] start (turn u (e ∷ map event_back rest)) _ (begun m os) a b c first
     (ran_cut here (turn u (e ∷ map event_back rest)) (begun m os) b c grew)
 
+-- a receive asks nothing else, nor does what is done at a quiet one
+pub tended_grew : (here : Here) (arrival : Arrival) (r0 r1 : Option (List Arrival)) (s0 s1 : Option (List Packet)) (a0 a1 : Option (List Asked))
+    (p : Option (List Print)) (f : Option (List Filing)) (c : Option (List ℕ))
+    → Extends r0 r1 (arrival ∷ []) → Extends s0 s1 [] → Extends a0 a1 []
+    → Grew here (received arrival ∷ []) none_begun (telling r0 s0 a0 p f c) (telling r1 s1 a1 p f c)
+tended_grew here arrival r0 r1 s0 s1 a0 a1 p f c came sent tended =
+    record { received = came; sent = sent; asked = tended; prints = extends_none p; filings = extends_none f; given = extends_none c }
+
 -- a receive asks nothing else
 pub received_grew : (here : Here) (arrival : Arrival) (r0 r1 : Option (List Arrival)) (s0 s1 : Option (List Packet)) (a : Option (List Asked))
     (p : Option (List Print)) (f : Option (List Filing)) (c : Option (List ℕ))
     → Extends r0 r1 (arrival ∷ []) → Extends s0 s1 [] → Grew here (received arrival ∷ []) none_begun (telling r0 s0 a p f c) (telling r1 s1 a p f c)
 received_grew here arrival r0 r1 s0 s1 a p f c came sent =
-    record { received = came; sent = sent; asked = extends_none a; prints = extends_none p; filings = extends_none f; given = extends_none c }
+    tended_grew here arrival r0 r1 s0 s1 a a p f c came sent (extends_none a)
 
 -- a receive that failed
 pub missed_grew : (here : Here) (r0 r1 : Option (List Arrival)) (s0 s1 : Option (List Packet)) (a : Option (List Asked)) (p : Option (List Print))

@@ -4,6 +4,7 @@ ghost use Rattle.std.specs.Prelude.{◌≡◌, ◌≤◌, ◌∷◌, [], false, 
 ghost use Rattle.nqs_state.specs.State.{Plain};
 ghost use Rattle.nqs_types.specs.declared.world.Which.{Which};
 ghost use Rattle.nqs_outside.specs.Causes.{Rose};
+ghost use Rattle.nqs_outside.specs.Told.{Extends};
 ghost use Rattle.nqs_node.specs.Nodes.{active_of, content_of, disk_of, history_of, is_stopped, Tells};
 ghost use Rattle.nqs_records.specs.Values.{IsHost};
 ghost use Rattle.nqs_store.specs.Sound.{IsSoundHost};
@@ -21,7 +22,7 @@ use crate::take::{take_back, take_event};
 use nqs_base::Memory;
 use nqs_node::Node;
 use nqs_outside::{Clock, Disk, Launcher, Outlet, Printer, Wire};
-use nqs_types::{HostId, Output};
+use nqs_types::{Event, HostId, Output};
 use std::alloc::Global;
 use std::collections::VecDeque;
 
@@ -66,6 +67,17 @@ fn end_of(fault: Fault) -> ServeEnd
         Fault::Wire => ServeEnd::WireFault,
         Fault::Disk => ServeEnd::DiskFault,
         Fault::Memory(memory) => ServeEnd::Memory(memory),
+    }
+}
+
+// At the tick of a quiet wire what a shortage kept back is tried once more.
+#[tactic(auto, using(nqs_outside::proofs::Told::extends_none))]
+fn tend_at<L: Launcher>(event: &Event, launcher: &mut L)
+    ensures { Extends (L.asked launcher.old) (L.asked launcher.new) [] }
+{
+    match event {
+        Event::Tick { .. } => launcher.tend(),
+        _ => {}
     }
 }
 
@@ -117,6 +129,7 @@ fn turn<D: Disk, W: Wire, L: Launcher, P: Printer, O: Outlet, C: Clock>(
         Err(Missed::Wire) => return Err(Fault::Wire),
         Err(Missed::Memory(memory)) => return Err(Fault::Memory(memory)),
     };
+    tend_at(&event, launcher);
     room.back.clear();
     let out = &mut room.out;
     let back = &mut room.back;
@@ -183,7 +196,8 @@ fn turns_in<D: Disk, W: Wire, L: Launcher, P: Printer, O: Outlet, C: Clock>(
 const ROOM: usize = 49_153;
 
 /// Serves a host: takes what comes, turn by turn, at most so many. A turn is a receive, the event
-/// that it brought with the starts after it, and the events that come back of what went out.
+/// that it brought with the starts after it, and the events that come back of what went out. Where
+/// nothing came, the launcher is tended first.
 ///
 /// The node's state is that after the run over what was received, and what the outside was asked
 /// for is just what goes out of that run, in order. Whatever a stop leaves of the node's disks at

@@ -7,7 +7,7 @@ use Rattle.nqs_serve.specs.Steps.{after_event}
 use Rattle.nqs_serve.specs.Runs.{received, took, turn, idle, none_begun, begun}
 use Rattle.nqs_serve.specs.Ends.{Ends, Receives, stops, end_of}
 use Rattle.nqs_serve.specs.Moments.{IsPassed}
-use Rattle.nqs_serve.proofs.Acts.{ran_received, ran_cut, ran_then, received_grew, missed_grew, ran_turn, turn_stops}
+use Rattle.nqs_serve.proofs.Acts.{ran_received, ran_cut, ran_then, received_grew, tended_grew, missed_grew, ran_turn, turn_stops}
 use Rattle.nqs_serve.proofs.Ending.{one_receive, cut_ends, disk_cut, wire_no_disk, memory_no_disk}
 use Rattle.nqs_serve.proofs.Leaving.{none_left, then_left, left_as, left_by, no_error}
 use Rattle.nqs_serve.proofs.Moments.{through_none, through_cut_turn, through_turn}
@@ -82,7 +82,7 @@ returns-in-Err-clause-err g c = λ s here knows same.
       turn s (e ∷ []),
       begun cut.0 cut.1,
       ran_then here (received came.0 ∷ []) [] (idle s) (turn s (e ∷ [])) _ (begun cut.0 cut.1) _ _ _
-          (ran_received here s came.0 (Some e) _ _ some (received_grew here came.0 _ _ _ _ _ _ _ _ came.2 c.receive.ensures.sent))
+          (ran_received here s came.0 (Some e) _ _ some (tended_grew here came.0 _ _ _ _ _ _ _ _ _ came.2 c.receive.ensures.sent c.tend_at.ensures))
           (ran_cut here (turn s (e ∷ [])) (begun cut.0 cut.1) _ _ cut.4),
       subst (λ f. Ends (end_of f) 1 bs (turn s (e ∷ [])) (begun cut.0 cut.1) c.take_event-taken.new.node) (sym c.fault_of.ensures)
           (cut_ends c.in-Err.cut bs (turn s (e ∷ [])) (begun cut.0 cut.1) c.take_event-taken.new.node
@@ -108,7 +108,7 @@ returns-in-Err-take_back-clause-err g c = λ s here knows same.
       cut.1,
       cut.2,
       ran_turn here came.0 ok.0 ok.1 cut.0 s e c.clear.new.self.items _ cut.1 cut.2 _ _ _ _ some c.clear.ensures.items ok.2 ok.4
-          (received_grew here came.0 _ _ _ _ _ _ _ _ came.2 c.receive.ensures.sent) ok.5 cut.6,
+          (tended_grew here came.0 _ _ _ _ _ _ _ _ _ came.2 c.receive.ensures.sent c.tend_at.ensures) ok.5 cut.6,
       subst (λ f. Ends (end_of f) 1 bs cut.1 cut.2 c.take_back.new.node) (sym c.fault_of-in-Err-take_back.ensures)
           (cut_ends c.in-Err-take_back.cut bs cut.1 cut.2 c.take_back.new.node
           (λ memory. let known = cut.4 (ap Err memory) in (known.0, known.1.1, known.2))
@@ -153,6 +153,6 @@ returns-clause-ok g c = λ s here knows same.
       rest.3,
       turn_stops here s came.0 ok.0 ok.1 rest.0 rest.2 ∙ ap (λ o. stops_by o s ∷ []) (sym some) ∙ ap (λ b. b ∷ []) (sym (c.in-Ok.ensures.halts s knows)),
       ran_turn here came.0 ok.0 ok.1 rest.0 s e c.clear.new.self.items _ (idle rest.1) none_begun _ _ _ _ some c.clear.ensures.items ok.2 ok.4
-          (received_grew here came.0 _ _ _ _ _ _ _ _ came.2 c.receive.ensures.sent) ok.5 rest.4,
+          (tended_grew here came.0 _ _ _ _ _ _ _ _ _ came.2 c.receive.ensures.sent c.tend_at.ensures) ok.5 rest.4,
       through_turn here _ _ _ _ _ _ came.0 ok.0 ok.1 rest.0 s e c.clear.new.self.items _ [] some c.clear.ensures.items ok.2 ok.6 rest.5,
     )
