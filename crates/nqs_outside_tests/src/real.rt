@@ -60,7 +60,7 @@ static SITES: [(&[u8], Option<usize>); 15] = [
 fn hosts_of(rt: &HostRuntime, text: &[u8]) -> Option<usize> {
     match read_site(rt.alloc(), text) {
         Ok(site) => names_of(rt.alloc(), &site).ok().map(|names| names.len()),
-        Err(SiteFault::Form) => None,
+        Err(SiteFault::Line(_)) => None,
         Err(SiteFault::Memory(_)) => Some(0),
     }
 }

@@ -2,7 +2,7 @@
 //! `nqs:` and what happened, as `2026-03-01T12:00:00Z nqs: 12.alpha wasn't launched: ..`. Nothing
 //! rests on these lines: one that can't be written isn't.
 
-ghost use Rattle.std.specs.Prelude.{◌≡◌, ◌++◌, IfSome, IfOk, codes, string_bytes};
+ghost use Rattle.std.specs.Prelude.{◌≡◌, ◌++◌, IfOk, codes, string_bytes};
 ghost use Rattle.nqs_text.specs.Dates.{date_text};
 ghost use Rattle.nqs_real.specs.Names.{request_text};
 
@@ -18,19 +18,23 @@ use std::io::ErrorKind;
 use std::rt::HostRuntime;
 
 // The line that says a text at a moment, in seconds since 1970. There is none of a moment past the
-// year 9999, nor where memory is wanting.
-fn line_of(alloc: Global, moment: u64, text: &str) -> Option<String>
-    ensures { IfSome result (λ line. string_bytes line ≡ date_text moment ++ codes "Z nqs: " ++ text.now) }
+// year 9999.
+fn line_of(alloc: Global, moment: u64, text: &str) -> io::Result<String>
+    ensures { IfOk result (λ line. string_bytes line ≡ date_text moment ++ codes "Z nqs: " ++ text.now) }
 {
     let mut when = Vec::new(alloc);
-    print_moment(alloc, moment, &mut when).ok()?;
-    let when = str::from_utf8(&when).ok()?;
-    format!(in alloc; "{when}Z nqs: {text}").ok()
+    if print_moment(alloc, moment, &mut when).is_err() {
+        return Err(io::Error::from(ErrorKind::InvalidInput));
+    }
+    match str::from_utf8(when.as_slice()) {
+        Ok(when) => Ok(format!(in alloc; "{when}Z nqs: {text}")?),
+        Err(_) => Err(io::Error::from(ErrorKind::InvalidData)),
+    }
 }
 
 /// Says a text of one line, with the moment.
-pub(crate) fn tell(rt: &HostRuntime, text: &str) {
-    if let Some(line) = line_of(rt.alloc(), seconds(rt).unwrap_or(0), text) {
+pub fn tell(rt: &HostRuntime, text: &str) {
+    if let Ok(line) = line_of(rt.alloc(), seconds(rt).unwrap_or(0), text) {
         let _ = eprintln!(rt; "{line}");
     }
 }
@@ -71,6 +75,13 @@ pub(crate) fn tell_failed(
 ) {
     if let Err(cause) = made {
         let _ = tell_cause(rt, site, id, what, cause);
+    }
+}
+
+/// Says which part of the machine can't be had, and why.
+pub fn tell_part(rt: &HostRuntime, what: &str, cause: &io::Error) {
+    if let Ok(text) = format!(in rt.alloc(); "{what}: {cause}") {
+        tell(rt, &text);
     }
 }
 
