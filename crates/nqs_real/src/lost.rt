@@ -1,6 +1,7 @@
 //! Outputs that can't be written where they should be: how they are named, and where they go.
 
 ghost use Rattle.std.specs.Prelude.{◌≡◌, ◌+◌, ◌<◌, ◌++◌, IfOk, OnOk, take, string_bytes};
+ghost use Rattle.std.specs.List.{flat_map};
 ghost use Rattle.nqs_real.specs.Lost.{is_plain, digit, spelled, coded, coded_first, flat_name, longest_name, NamesDiffer};
 
 use crate::folder::{make_private, path_in};
@@ -60,18 +61,24 @@ fn code_first(name: &mut Vec<u8>, byte: u8) -> io::Result<()>
     }
 }
 
+fn code_all(name: &mut Vec<u8>, bytes: &[u8]) -> io::Result<()>
+    ensures { OnOk result (name.new.items ≡ name.old.items ++ flat_map coded bytes.now) }
+{
+    for byte in bytes {
+        code(name, *byte)?;
+    }
+    Ok(())
+}
+
 // A path as a name without folders.
 #[tactic(auto, unfolding(crate::specs::Lost::flat_name))]
 fn flat_bytes(alloc: Global, path: &[u8]) -> io::Result<Vec<u8>>
     ensures { IfOk result (λ name. name.items ≡ flat_name path.now) }
 {
     let mut name = Vec::new(alloc);
-    let Some((first, more)) = path.split_first() else {
-        return Ok(name);
-    };
-    code_first(&mut name, *first)?;
-    for byte in more {
-        code(&mut name, *byte)?;
+    if let Some((first, more)) = path.split_first() {
+        code_first(&mut name, *first)?;
+        code_all(&mut name, more)?;
     }
     Ok(name)
 }
