@@ -1,5 +1,5 @@
 -- Flat names: two paths never share one.
-use Rattle.std.proofs.Common.{◌≡◌, ℕ, ◌+◌, ◌*◌, ◌/◌, ◌%◌, ◌≤◌, ◌==◌, Bool, true, false, if◌then◌else◌, nat_lt, List, [], ◌∷◌, ◌++◌, length, take}
+use Rattle.std.proofs.Common.{◌≡◌, ℕ, ◌+◌, ◌*◌, ◌/◌, ◌%◌, ◌==◌, Bool, true, false, if◌then◌else◌, List, [], ◌∷◌, ◌++◌, take}
 use Rattle.std.proofs.Common.{refl, sym, subst, arith, take_all, div-add-mod'}
 use Rattle.std.specs.List.{flat_map}
 use Rattle.nqs_real.specs.Lost.{is_plain, digit, spelled, coded, coded_first, flat_name, longest_name, NamesDiffer}
