@@ -25,9 +25,11 @@ pub record WireTold : Type 0 where
   pub receive_faults : ℕ
   pub send_faults : ℕ
 
--- what was handed over, and for whom: the names of a site's hosts, or a part
+-- what was handed over, and for whom: the names of a site's hosts, an answer, or a part
 pub data Lent : Type 0 where
   names_of : (dir : List ℕ) (names : List (List ℕ)) → Lent
+  -- the answer to which disk of a host isn't there, where another has bytes
+  look_of : (dir : List ℕ) (host : HostId) (missing : Option Which) → Lent
   disks_of : (dir : List ℕ) (host : HostId) (told : DisksTold) → Lent
   -- the wire of a host's daemon, or one of a client or shepherd, and its port
   wire_of : (dir : List ℕ) (host : Option HostId) (port : ℕ) (told : WireTold) → Lent
@@ -50,6 +52,7 @@ pub data Back : Type 0 where
 -- the part that was handed over, as it was
 abbrev pub as_lent : Lent → List Back
 as_lent (names_of dir names) = []
+as_lent (look_of dir host missing) = []
 as_lent (disks_of dir host told) = disks_back host told ∷ []
 as_lent (wire_of dir host port told) = wire_back told ∷ []
 as_lent (launcher_of dir host asked) = launcher_back asked ∷ []
