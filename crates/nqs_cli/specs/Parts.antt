@@ -4,7 +4,7 @@ use Rattle.std.specs.declared.option.Option.{Option}
 use Rattle.std.specs.declared.result.Result.{Result}
 use Rattle.nqs_types.specs.declared.ids.HostId.{HostId}
 use Rattle.nqs_types.specs.declared.world.Which.{Which}
-use Rattle.nqs_outside.specs.Asked.{Arrival, Packet, Asked, Print, Filing, Job}
+use Rattle.nqs_outside.specs.Asked.{Traffic, Asked, Print, Filing, Job}
 use Rattle.nqs_outside.specs.Causes.{Rose}
 use Rattle.nqs_outside.specs.History.{History}
 use Rattle.nqs_outside.specs.Told.{Extends}
@@ -18,10 +18,9 @@ pub record DisksTold : Type 0 where
   pub histories : Which → History
   pub faults : Which → ℕ
 
--- a wire: what came, what was to be sent, and how often a call has failed
+-- a wire: what came and what was to be sent, call by call, and how often a call has failed
 pub record WireTold : Type 0 where
-  pub received : Option (List Arrival)
-  pub sent : Option (List Packet)
+  pub traffic : Option (List Traffic)
   pub receive_faults : ℕ
   pub send_faults : ℕ
 
@@ -67,7 +66,7 @@ disks_told {D} g disks = record { histories = histories_of g.history disks; faul
 
 -- what a wire tells
 abbrev pub wire_told : {W : Type 0} → wire.Ghosts W → W → WireTold
-wire_told {W} g w = record { received = g.received w; sent = g.sent w; receive_faults = g.receive_faults w; send_faults = g.send_faults w }
+wire_told {W} g w = record { traffic = g.traffic w; receive_faults = g.receive_faults w; send_faults = g.send_faults w }
 
 -- what a machine tells: what it handed over, what came back, and how often a call of it has failed
 pub record MachineTold : Type 0 where

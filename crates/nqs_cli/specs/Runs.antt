@@ -90,10 +90,8 @@ without_dir (tool ∷ dir ∷ more) = tool ∷ more
 abbrev pub wired_of : WireTold → WireTold → Wired
 wired_of was now =
     record {
-      received = was.received;
-      received_now = now.received;
-      sent = was.sent;
-      sent_now = now.sent;
+      traffic = was.traffic;
+      traffic_now = now.traffic;
       receive_faults = was.receive_faults;
       receive_faults_now = now.receive_faults;
       send_faults = was.send_faults;
@@ -135,7 +133,7 @@ shepherd_parts at port runs told = runner_of at.dir at.me runs ∷ wire_of at.di
 abbrev pub DoesShepherd : Place → RequestId → ℕ → Parts → NqsStatus → Type 0
 DoesShepherd at id start parts status = (port : ℕ) × (runs runs_now : Option (List Job)) × (was now : WireTold) × (end : ShepherdEnd)
     × (parts ≡ lent_and_back (shepherd_parts at port runs was) (shepherd_parts at port runs_now now)) × (status ≡ status_of_shepherd end)
-    × Shepherds at.me port id start runs runs_now was.received now.received was.sent now.sent end
+    × Shepherds at.me port id start runs runs_now was.traffic now.traffic end
     × (end ≡ shepherd.WireFault → Rose was.receive_faults now.receive_faults)
 
 -- a shepherd did so, where the request that was named may be one of the site

@@ -115,9 +115,7 @@ pub(crate) fn tell_start(rt: &HostRuntime, state: &HostState, said: &[Output]) -
     let names = state.site.as_slice();
     let host = name_text(names.get(state.me.0 as usize));
     let count = state.rows.len();
-    let text = format!(in rt.alloc();
-        "{host} starts over disks of version 1, requests: {count}"
-    )?;
+    let text = format!(in rt.alloc(); "{host} starts over disks of version 1, requests: {count}")?;
     tell(rt, &text);
     tell_boot(rt, names, said);
     Ok(())
