@@ -239,9 +239,9 @@ struct Fused {
     last: u64,
 }
 
-// A failed call ends the daemon, also where the later ones would go on. A change makes four calls of
-// the disk first: those of the edit are 1 to 4, of the submission 5 to 8, of the start 9 to 12. The
-// script makes two of the spool.
+// A failed call ends the daemon, also where the later ones would go on. A change makes four calls
+// of the disk first: those of the edit are 1 to 4, of the submission 5 to 8, of the start 9 to 12.
+// The script makes two of the spool.
 static FUSED: [Fused; 4] = [
     Fused {
         title: "the disk first fails at its call",

@@ -1,6 +1,6 @@
-//! Serves days over an outside in memory, and prints what was seen: `stdout` has what is to be seen,
-//! by hand. A host of a site of one serves a day, days on which a call of its outside or of a disk
-//! fails, and literal datagrams; shepherds and a client speak over a wire.
+//! Serves days over an outside in memory, and prints what was seen: `stdout` has what is to be
+//! seen, by hand. A host of a site of one serves a day, days on which a call of its outside or of a
+//! disk fails, and literal datagrams; shepherds and a client speak over a wire.
 #![tactic(auto)]
 
 mod coming;
