@@ -59,7 +59,7 @@ fn formatted(alloc: Global) -> Result<Disks<MemDisk>, Trouble>
     Ok(disks)
 }
 
-fn fuse_one(disk: &mut MemDisk, call: u64, alone: bool)
+fn set_one(disk: &mut MemDisk, call: u64, alone: bool)
     ensures { history_of_disk disk.new ≡ history_of_disk disk.old }
 {
     if alone {
@@ -70,15 +70,15 @@ fn fuse_one(disk: &mut MemDisk, call: u64, alone: bool)
 }
 
 // A boot makes four calls of the disk first, and none of the others.
-fn fuse(disks: &mut Disks<MemDisk>, fuse: Fuse)
+fn set_fuse(disks: &mut Disks<MemDisk>, fuse: Fuse)
     ensures { (disk : OneOf) → history_of_disk (disk_at disk disks.new) ≡ history_of_disk (disk_at disk disks.old) }
 {
     let Fuse { which, call, alone } = fuse;
     match which {
-        Which::Root => fuse_one(&mut disks.root, call, alone),
-        Which::First => fuse_one(&mut disks.first, call.saturating_add(4), alone),
-        Which::Second => fuse_one(&mut disks.second, call, alone),
-        Which::Spool => fuse_one(&mut disks.spool, call, alone),
+        Which::Root => set_one(&mut disks.root, call, alone),
+        Which::First => set_one(&mut disks.first, call.saturating_add(4), alone),
+        Which::Second => set_one(&mut disks.second, call, alone),
+        Which::Spool => set_one(&mut disks.spool, call, alone),
     }
 }
 
@@ -140,7 +140,7 @@ impl Host {
     pub(crate) fn booted(alloc: Global, failing: Option<Fuse>) -> Result<Host, Trouble> {
         let mut disks = formatted(alloc)?;
         if let Some(call) = failing {
-            fuse(&mut disks, call);
+            set_fuse(&mut disks, call);
         }
         Host::of_disks(alloc, disks)
     }

@@ -21,12 +21,11 @@ pub(crate) fn put_text(text: Result<String, AllocError>, out: &mut Vec<u8>) -> R
 pub(crate) fn put_quoted(bytes: &[u8], out: &mut Vec<u8>) -> Result<(), Trouble> {
     put(b"\"", out)?;
     for byte in bytes {
-        let spelled = if *byte == b'\n' {
-            b"\\n".as_slice()
+        if *byte == b'\n' {
+            put(b"\\n", out)?;
         } else {
-            &[*byte]
-        };
-        put(spelled, out)?;
+            out.push(*byte)?;
+        }
     }
     put(b"\"", out)
 }
