@@ -327,26 +327,28 @@ fn the_process_is_there(rt: HostRuntime) -> Result<(), Fail> {
     Ok(())
 }
 
-fn ask(client: &mut UdpWire, port: u16, daemon: &mut UdpWire) -> [bool; 8] {
-    let mut buf = [0u8; 4];
+fn ask(client: &mut UdpWire, port: u16, daemon: &mut UdpWire, buf: &mut [u8]) -> [bool; 8]
+    requires { 49152 < length buf.old }
+{
     [
         client.send(Address::Host(HOST), b"ask") == Ok(()),
         client.send(Address::Host(HostId(1)), b"ask") == Err(Failed),
-        daemon.receive(&mut buf) == Ok(Received::Datagram(3)),
-        buf == *b"ask\0",
+        daemon.receive(buf) == Ok(Received::Datagram(3)),
+        buf.starts_with(b"ask\0"),
         daemon.send(Address::Client(port), b"answers") == Ok(()),
-        client.receive(&mut buf) == Ok(Received::Datagram(4)),
-        buf == *b"answ",
-        client.receive(&mut buf) == Ok(Received::Quiet),
+        client.receive(buf) == Ok(Received::Datagram(7)),
+        buf.starts_with(b"answers\0"),
+        client.receive(buf) == Ok(Received::Quiet),
     ]
 }
 
 // Also where there is always something to receive.
-fn gets_quiet(wire: &mut UdpWire) -> bool {
-    let mut buf = [0u8; 4];
+fn gets_quiet(wire: &mut UdpWire, buf: &mut [u8]) -> bool
+    requires { 49152 < length buf.old }
+{
     for _ in 0..1_000_000 {
         let _ = wire.send(Address::Host(HOST), b"to itself");
-        if wire.receive(&mut buf) == Ok(Received::Quiet) {
+        if wire.receive(buf) == Ok(Received::Quiet) {
             return true;
         }
     }
@@ -357,7 +359,9 @@ fn talk(rt: &HostRuntime) -> Result<([bool; 8], bool), Fail> {
     let site = site_of_alpha(rt)?;
     let mut daemon = UdpWire::of_daemon(*rt, &site, HOST, 200)?;
     let (mut client, port) = UdpWire::of_client(*rt, &site, 200)?;
-    Ok((ask(&mut client, port, &mut daemon), gets_quiet(&mut daemon)))
+    let mut buf = vec![in rt.alloc(); 0u8; 49_153]?;
+    let asked = ask(&mut client, port, &mut daemon, &mut buf);
+    Ok((asked, gets_quiet(&mut daemon, &mut buf)))
 }
 
 #[test]

@@ -2,7 +2,7 @@
 
 use crate::day::serve_rounds;
 use crate::outside::{NONE, outside_of};
-use crate::text::{put, put_sent};
+use crate::text::{put, put_calls};
 use crate::trouble::Trouble;
 use std::alloc::Global;
 
@@ -33,5 +33,5 @@ pub(crate) fn put_literal(alloc: Global, out: &mut Vec<u8>) -> Result<(), Troubl
     put(b"\n== literal datagrams\n", out)?;
     let mut outside = outside_of(alloc, &NONE, &DATAGRAMS)?;
     serve_rounds(alloc, None, &[4], &mut outside, out)?;
-    put_sent(alloc, outside.wire.sent(), out)
+    put_calls(alloc, outside.wire.kept(), out)
 }

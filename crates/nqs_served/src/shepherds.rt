@@ -2,7 +2,7 @@
 
 use crate::host::alpha;
 use crate::outside::{Failing, NONE, outside_of};
-use crate::text::{put, put_quoted, put_sent, put_text};
+use crate::text::{put, put_calls, put_quoted, put_text};
 use crate::trouble::Trouble;
 use nqs_base::{Bytes, Items, Name};
 use nqs_clients::{NqsStatus, ShepherdEnd, client, shepherd};
@@ -121,9 +121,7 @@ fn words_of(end: ShepherdEnd) -> &'static str {
 
 // What went over a wire.
 fn put_wire(alloc: Global, wire: &MemWire, out: &mut Vec<u8>) -> Result<(), Trouble> {
-    let received = wire.received().len();
-    put_text(format!(in alloc; "received {received}\n"), out)?;
-    put_sent(alloc, wire.sent(), out)
+    put_calls(alloc, wire.kept(), out)
 }
 
 // The shepherd of the first start of a job of host 1, whose request is of host 0.

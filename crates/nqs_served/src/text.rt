@@ -1,7 +1,8 @@
 //! How bytes, numbers and datagrams are printed.
 
 use crate::trouble::Trouble;
-use nqs_fakes::Sent;
+use nqs_base::Bytes;
+use nqs_fakes::Kept;
 use nqs_outside::Address;
 use std::alloc::{AllocError, Global};
 
@@ -39,18 +40,34 @@ fn put_address(alloc: Global, address: Address, out: &mut Vec<u8>) -> Result<(),
 }
 
 /// Prints a datagram that was to be sent, byte by byte.
-pub(crate) fn put_datagram(alloc: Global, sent: &Sent, out: &mut Vec<u8>) -> Result<(), Trouble> {
-    put_address(alloc, sent.to, out)?;
-    for byte in sent.bytes.as_slice() {
+pub(crate) fn put_datagram(
+    alloc: Global,
+    to: Address,
+    bytes: &Bytes,
+    out: &mut Vec<u8>,
+) -> Result<(), Trouble> {
+    put_address(alloc, to, out)?;
+    for byte in bytes.as_slice() {
         put_text(format!(in alloc; " {byte}"), out)?;
     }
     put(b"\n", out)
 }
 
-/// Prints datagrams that were to be sent.
-pub(crate) fn put_sent(alloc: Global, sent: &[Sent], out: &mut Vec<u8>) -> Result<(), Trouble> {
-    for sent in sent {
-        put_datagram(alloc, sent, out)?;
+fn put_call(alloc: Global, call: &Kept, out: &mut Vec<u8>) -> Result<(), Trouble> {
+    match call {
+        Kept::Inbound(bytes) => {
+            let count = bytes.len();
+            put_text(format!(in alloc; "{count} bytes came\n"), out)
+        }
+        Kept::Nothing => put(b"nothing came\n", out),
+        Kept::Outbound(to, bytes) => put_datagram(alloc, *to, bytes, out),
+    }
+}
+
+/// Prints what passed a wire, call by call.
+pub(crate) fn put_calls(alloc: Global, calls: &[Kept], out: &mut Vec<u8>) -> Result<(), Trouble> {
+    for call in calls {
+        put_call(alloc, call, out)?;
     }
     Ok(())
 }

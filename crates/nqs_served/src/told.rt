@@ -5,27 +5,37 @@ use crate::outside::Outside;
 use crate::text::{put, put_datagram, put_quoted, put_text};
 use crate::trouble::Trouble;
 use nqs_base::Bytes;
-use nqs_fakes::{FileWritten, LauncherCall, Printed, Sent};
+use nqs_fakes::{FileWritten, Kept, LauncherCall, Printed};
 use nqs_outside::Address;
 use nqs_types::RequestId;
 use std::alloc::Global;
 
 // The text of an answer, or else the datagram, byte by byte.
-fn put_answer(alloc: Global, sent: &Sent, token: u64, out: &mut Vec<u8>) -> Result<(), Trouble> {
-    let text = match sent.to {
-        Address::Client(9) => text_of(sent.bytes.as_slice(), token),
+fn put_answer(
+    alloc: Global,
+    to: Address,
+    bytes: &Bytes,
+    token: u64,
+    out: &mut Vec<u8>,
+) -> Result<(), Trouble> {
+    let text = match to {
+        Address::Client(9) => text_of(bytes.as_slice(), token),
         _ => None,
     };
     match text {
         Some(text) => put(text, out),
-        None => put_datagram(alloc, sent, out),
+        None => put_datagram(alloc, to, bytes, out),
     }
 }
 
 // What is asked for first has the token 0, and each further one that of the answer behind it.
-fn put_answers(alloc: Global, sent: &[Sent], out: &mut Vec<u8>) -> Result<(), Trouble> {
-    for (place, sent) in sent.iter().enumerate() {
-        put_answer(alloc, sent, place as u64, out)?;
+fn put_answers(alloc: Global, calls: &[Kept], out: &mut Vec<u8>) -> Result<(), Trouble> {
+    let mut token = 0u64;
+    for call in calls {
+        if let Kept::Outbound(to, bytes) = call {
+            put_answer(alloc, *to, bytes, token, out)?;
+            token = token.saturating_add(1);
+        }
     }
     Ok(())
 }
@@ -89,7 +99,7 @@ fn put_file(file: &FileWritten, out: &mut Vec<u8>) -> Result<(), Trouble> {
 
 /// Prints what the daemon asked of its outside: answers, jobs, prints and files.
 pub(crate) fn put_told(alloc: Global, outside: &Outside, out: &mut Vec<u8>) -> Result<(), Trouble> {
-    put_answers(alloc, outside.wire.sent(), out)?;
+    put_answers(alloc, outside.wire.kept(), out)?;
     for call in outside.launcher.kept() {
         put_job(alloc, call, out)?;
     }
