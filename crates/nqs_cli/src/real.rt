@@ -170,8 +170,7 @@ impl RealMachine {
 
     fn runner_of(&self, dir: &str, host: HostId) -> Result<ShellRunner, PartFault> {
         let site = site_at(&self.rt, dir)?;
-        let folder = make_host_folder(&self.rt, dir, &site, host)?;
-        Ok(ShellRunner::open(self.rt, &folder, &site, host)?)
+        Ok(ShellRunner::open(self.rt, dir, &site, host)?)
     }
 }
 

@@ -34,6 +34,11 @@ pub(crate) fn tell_failed(
     }
 }
 
+/// Says of a request that a shortage of the system keeps its job back.
+pub(crate) fn tell_kept(rt: &HostRuntime, request: &str, cause: &io::Error) {
+    let _ = eprintln!(rt; "nqs: {request} waits to be launched: {cause}");
+}
+
 fn tell_request(rt: &HostRuntime, names: &[Name], id: RequestId, what: &str) -> io::Result<()> {
     let Some(name) = names.get(id.host.0 as usize) else {
         return Err(io::Error::from(ErrorKind::InvalidInput));
