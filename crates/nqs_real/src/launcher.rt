@@ -16,7 +16,6 @@ use crate::starter::{LaunchedJob, Starter, write_kill};
 use nqs_outside::{Failed, Launcher};
 use nqs_types::{HostId, LaunchOrder, RequestId};
 use std::alloc::AllocError;
-use std::io::ErrorKind;
 use std::process::Child;
 use std::rt::HostRuntime;
 use std::{env, fs, io};
@@ -258,21 +257,37 @@ impl ShepherdLauncher {
         }
     }
 
+    // Starts the job of the kept order at this place, if it was killed or not as is asked. Did it?
+    fn try_at(&mut self, place: usize, is_killed: bool) -> io::Result<bool>
+        ensures { self.new.faults ≡ self.old.faults }
+    {
+        if !self.is_due(place, is_killed) {
+            return Ok(false);
+        }
+        self.start_kept(place)?;
+        Ok(true)
+    }
+
+    // The same. The place of the order to be looked at next; none where a shortage goes on.
+    fn next_after(&mut self, place: usize, is_killed: bool) -> Option<usize>
+        ensures { self.new.faults ≡ self.old.faults }
+    {
+        match self.try_at(place, is_killed) {
+            Ok(true) => Some(place),
+            Err(e) if is_shortage(&e) => None,
+            _ => Some(place.saturating_add(1)),
+        }
+    }
+
     // Starts the kept orders that were killed, or the others, up to the first that is kept back.
     fn start_each(&mut self, is_killed: bool)
         ensures { self.new.faults ≡ self.old.faults }
     {
         let mut place = 0usize;
         for _ in 0..self.orders.len() {
-            let made = if self.is_due(place, is_killed) {
-                self.start_kept(place)
-            } else {
-                Err(io::Error::from(ErrorKind::NotFound))
-            };
-            match made {
-                Ok(()) => {}
-                Err(e) if is_shortage(&e) => return,
-                Err(_) => place = place.saturating_add(1),
+            match self.next_after(place, is_killed) {
+                Some(next) => place = next,
+                None => return,
             }
         }
     }
