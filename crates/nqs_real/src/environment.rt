@@ -1,6 +1,8 @@
 //! The environment of a job: some names of the daemon's own, those that the site's file `jobs.conf`
 //! lists, and the job's.
 
+ghost use Rattle.std.specs.Prelude.{◌<◌, IfSome, length};
+
 use crate::folder::path_in;
 use std::alloc::AllocError;
 use std::env::VarError;
@@ -27,7 +29,9 @@ fn add_variable(rt: &HostRuntime, command: &mut Command, name: &str) -> io::Resu
 
 /// The name in a line `env=NAME` of the file `jobs.conf`, with or without blanks around it. Any
 /// other line, as a comment, has none.
-fn listed_name(line: &str) -> Option<&str> {
+fn listed_name(line: &str) -> Option<&str>
+    ensures { IfSome result (λ name. 0 < length name.now) }
+{
     let name = line.trim().strip_prefix("env=")?.trim();
     if name.is_empty() { None } else { Some(name) }
 }

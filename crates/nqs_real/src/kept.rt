@@ -1,5 +1,7 @@
 //! Orders that a shortage of the system keeps back, until they can be started.
 
+ghost use Rattle.std.specs.Prelude.{◌≡◌, ◌↔◌, IsTrue, string_bytes};
+
 use crate::starter::{LaunchedJob, Starter};
 use std::io;
 use std::process::Child;
@@ -21,7 +23,9 @@ impl KeptOrder {
     }
 
     // Is it the order of the job with this folder?
-    fn is_at(&self, place: &str) -> bool {
+    fn is_at(&self, place: &str) -> bool
+        ensures { IsTrue result ↔ (string_bytes self.now.job.place ≡ place.now) }
+    {
         self.job.place.as_str() == place
     }
 }

@@ -10,7 +10,7 @@
 //! its environment or wrote over it, what such a process started, and a process of a user whose
 //! files there can't be read.
 
-ghost use Rattle.std.specs.Prelude.{◌≡◌};
+ghost use Rattle.std.specs.Prelude.{◌≡◌, ◌<◌, ◌≤◌};
 ghost use Rattle.nqs_real.specs.Marks.{is_mark, is_marked};
 
 use crate::program::end_processes;
@@ -149,7 +149,10 @@ fn is_calm(made: io::Result<bool>) -> io::Result<bool> {
 }
 
 // The longest wait after this look.
-fn longest_after(look: u32) -> u64 {
+fn longest_after(look: u32) -> u64
+    ensures quick { look < 20 → result ≤ 100 }
+    ensures later { 20 ≤ look → result ≡ 60000 }
+{
     if look < LOOKS { QUICK_WAIT } else { LAST_WAIT }
 }
 

@@ -1,5 +1,7 @@
 //! The files `out` and `err` of a job.
 
+ghost use Rattle.std.specs.Prelude.{◌≡◌, ◌-◌, ◌++◌, OnOk, length, take};
+
 use crate::folder::path_in;
 use nqs_base::Bytes;
 use nqs_outside::RunEnd;
@@ -67,7 +69,9 @@ fn read_output(rt: &HostRuntime, place: &str, name: &str) -> io::Result<Vec<u8>>
 }
 
 // Adds a text, behind as much of what is there as leaves it room.
-fn add_text(bytes: &mut Vec<u8>, text: &str) -> io::Result<()> {
+fn add_text(bytes: &mut Vec<u8>, text: &str) -> io::Result<()>
+    ensures { OnOk result (bytes.new.items ≡ take (16384 - length text.now) bytes.old.items ++ text.now) }
+{
     bytes.truncate(KEPT.saturating_sub(text.len()));
     bytes.extend_from_slice(text.as_bytes())?;
     Ok(())

@@ -1,6 +1,10 @@
 //! Shortages of the system: no process, memory, open file or space on a disk is left for now. What
 //! meets one isn't refused, it is tried again.
 
+ghost use Rattle.std.specs.Prelude.{◌≡◌, ◌*◌, ◌-◌, ◌^◌, min, true, None};
+ghost use Rattle.std.specs.IoError.{error_kind, raw_os_error};
+ghost use Rattle.nqs_real.specs.Shortages.{is_short_kind};
+
 use std::io::ErrorKind;
 use std::rt::HostRuntime;
 use std::time::Duration;
@@ -36,7 +40,9 @@ impl Waits {
     }
 
     /// Makes the next wait. The one after it is twice as long, at most this many milliseconds.
-    pub(crate) fn wait(&mut self, rt: &HostRuntime, longest: u64) {
+    pub(crate) fn wait(&mut self, rt: &HostRuntime, longest: u64)
+        ensures { self.new.next ≡ min longest (min (self.old.next * 2) (2 ^ 64 - 1)) }
+    {
         thread::sleep(rt, Duration::from_millis(self.next));
         self.next = longest.min(self.next.saturating_mul(2));
     }
@@ -47,14 +53,27 @@ impl Waits {
     }
 }
 
+// Is it a failure of this kind for want of a process, memory, or space on a disk?
+fn is_short_kind(kind: ErrorKind) -> bool
+    ensures { result ≡ is_short_kind kind }
+{
+    matches!(
+        kind,
+        ErrorKind::WouldBlock
+            | ErrorKind::OutOfMemory
+            | ErrorKind::StorageFull
+            | ErrorKind::QuotaExceeded
+    )
+}
+
 /// Has a call failed for want of what may come back: a process, memory, an open file, or space on a
 /// disk?
-pub(crate) fn is_shortage(e: &io::Error) -> bool {
-    match e.kind() {
-        ErrorKind::WouldBlock
-        | ErrorKind::OutOfMemory
-        | ErrorKind::StorageFull
-        | ErrorKind::QuotaExceeded => true,
-        _ => matches!(e.raw_os_error(), Some(NO_SYSTEM_FILE | NO_FILE)),
+pub(crate) fn is_shortage(e: &io::Error) -> bool
+    ensures kind { is_short_kind (error_kind e.now) ≡ true → result ≡ true }
+    ensures other { raw_os_error e.now ≡ None → result ≡ is_short_kind (error_kind e.now) }
+{
+    match e.raw_os_error() {
+        Some(NO_SYSTEM_FILE | NO_FILE) => true,
+        _ => is_short_kind(e.kind()),
     }
 }
