@@ -269,11 +269,10 @@ impl RealMachine {
 
     fn runner_of(&self, dir: &str, host: HostId) -> Result<ShellRunner, PartFault> {
         let site = site_at(&self.rt, dir)?;
-        let folder = made_folder(&self.rt, dir, &site, host)?;
         had(
             &self.rt,
             "the folder work",
-            ShellRunner::open(self.rt, &folder, &site, host),
+            ShellRunner::open(self.rt, dir, &site, host),
         )
     }
 }

@@ -285,7 +285,7 @@ fn make_disks(rt: &HostRuntime, folder: &str) -> io::Result<()> {
 }
 
 fn make_job(rt: &HostRuntime, dir: &str, site: &[SiteHost], order: &LaunchOrder) -> io::Result<()> {
-    let mut launcher = ShepherdLauncher::open(*rt, "/bin/true", dir, site, HOST)?;
+    let mut launcher = ShepherdLauncher::open(*rt, "/bin/false", dir, site, HOST)?;
     let _ = launcher.launch(order, b"");
     Ok(())
 }
@@ -448,11 +448,11 @@ fn launch_job(launcher: &mut ShepherdLauncher, order: &LaunchOrder, script: &Scr
 
 fn run_job(
     rt: &HostRuntime,
-    folder: &str,
+    dir: &str,
     site: &[SiteHost],
     order: &LaunchOrder,
 ) -> io::Result<Result<RunEnd, Failed>> {
-    let mut runner = ShellRunner::open(*rt, folder, site, HOST)?;
+    let mut runner = ShellRunner::open(*rt, dir, site, HOST)?;
     Ok(runner.run(order.id, order.start))
 }
 
@@ -464,14 +464,14 @@ fn ends_so(end: Result<RunEnd, Failed>, script: &Script) -> bool {
 }
 
 // How many scripts end as they are to, before the first that doesn't.
-fn run_scripts(rt: &HostRuntime, dir: &str, folder: &str, site: &[SiteHost]) -> Result<u32, Fail> {
-    let mut launcher = ShepherdLauncher::open(*rt, "/bin/true", dir, site, HOST)?;
+fn run_scripts(rt: &HostRuntime, dir: &str, site: &[SiteHost]) -> Result<u32, Fail> {
+    let mut launcher = ShepherdLauncher::open(*rt, "/bin/false", dir, site, HOST)?;
     let mut ended = 0u32;
     for script in &SCRIPTS {
         let seq = ended.saturating_add(1);
         let order = order_of(seq, Some(1), Some(1_000_000_000))?;
         let is_launched = launch_job(&mut launcher, &order, script);
-        let end = run_job(rt, folder, site, &order)?;
+        let end = run_job(rt, dir, site, &order)?;
         if !ends_so(end, script) || !is_launched {
             return Ok(ended);
         }
@@ -482,8 +482,8 @@ fn run_scripts(rt: &HostRuntime, dir: &str, folder: &str, site: &[SiteHost]) -> 
 
 fn run_in_folder(rt: &HostRuntime, dir: &str) -> Result<u32, Fail> {
     let site = site_of_alpha(rt)?;
-    let folder = make_host_folder(rt, dir, &site, HOST)?;
-    run_scripts(rt, dir, &folder, &site)
+    drop(make_host_folder(rt, dir, &site, HOST)?);
+    run_scripts(rt, dir, &site)
 }
 
 #[test]

@@ -1,47 +1,47 @@
-//! The launcher: a process of this very program for each job, its shepherd, which runs the job and
-//! tells the daemon its end.
+//! The launcher: a shell for each job, which starts a process of this very program, the job's
+//! shepherd, and starts it again until the daemon knows the job's end.
 
 ghost use Rattle.std.specs.Prelude.{◌≡◌, ◌++◌, None, IfOk, codes, string_bytes};
 ghost use Rattle.nqs_real.specs.Names.{job_text};
 
 use crate::counted::counted;
-use crate::folder::{host_text, jobs_path, make_folder, make_private, path_in, request_text};
-use crate::leftovers::{end_job, end_jobs, put_mark};
-use crate::notices::tell_failed;
+use crate::folder::{host_text, jobs_path, make_folder, path_in, request_text};
+use crate::kept::{KeptOrder, note_kill};
+use crate::leftovers::{end_jobs, tell_left};
+use crate::notices::{tell_failed, tell_kept};
 use crate::order::order_text;
-use crate::program::{add_words, start_quietly};
+use crate::shortage::is_shortage;
 use crate::site::SiteHost;
+use crate::starter::{LaunchedJob, Starter, write_kill};
 use nqs_outside::{Failed, Launcher};
 use nqs_types::{HostId, LaunchOrder, RequestId};
 use std::alloc::AllocError;
-use std::fs::OpenOptions;
-use std::io::{ErrorKind, Write};
-use std::os::unix::fs::OpenOptionsExt;
-use std::process::{Child, Command};
+use std::process::Child;
 use std::rt::HostRuntime;
 use std::{env, fs, io};
 
-// The shepherd of a job, and the job's folder.
+// The shell of a job, and the job.
 #[derive(Drop)]
 struct Shepherd {
     child: Child,
-    place: String,
+    job: LaunchedJob,
 }
 
-/// Starts `PROGRAM shepherd DIR HOST SEQ.HOST START` for each job, under `setpriv`, which has the
-/// system kill the shepherd as soon as the daemon ends. Where there is no `setpriv` each launch
-/// fails. What is left of the jobs of an earlier daemon is ended before anything is launched; what
-/// is left of a job whose shepherd was killed, at the next launch or kill. Trusted: that the
-/// program is still the one that runs, and that a shepherd which was started runs its job.
+/// Starts a shell for each job, under `setpriv`, which has the system kill it as soon as the daemon
+/// ends; the shell starts `PROGRAM shepherd DIR HOST SEQ.HOST START` likewise, until that has told
+/// the job's end. Where there is no `setpriv` each launch fails; what a shortage of the system keeps
+/// back is kept, and tried again when it is tended. What is left of the jobs of an earlier daemon is
+/// ended before anything is launched. Trusted: that the program is still the one that runs, and that
+/// a shepherd which was started runs its job.
 #[derive(Drop)]
 pub struct ShepherdLauncher {
     rt: HostRuntime,
-    program: String,
-    dir: String,
-    host: HostId,
+    starter: Starter,
     site: Vec<SiteHost>,
     jobs: String,
     shepherds: Vec<Shepherd>,
+    orders: Vec<KeptOrder>,
+    kills: Vec<String>,
     faults: u64,
 }
 
@@ -63,25 +63,20 @@ pub(crate) fn job_name(
     Ok(format!(in rt.alloc(); "{request}.{start}")?)
 }
 
-fn write_private(rt: &HostRuntime, path: &str, bytes: &[u8]) -> io::Result<()> {
-    let mut file = OpenOptions::new()
-        .write(true)
-        .create_new(true)
-        .mode(0o600)
-        .open(rt, path)?;
-    file.write_all(bytes)
-}
-
-fn write_in(rt: &HostRuntime, place: &str, name: &str, bytes: &[u8]) -> io::Result<()> {
-    let path = path_in(rt, place, name)?;
-    write_private(rt, &path, bytes)
+// Ends what is left of jobs. Where that can't be done, says which processes are left.
+fn end_all(rt: &HostRuntime, jobs: &str) -> io::Result<()> {
+    let ended = end_jobs(rt, jobs);
+    if ended.is_err() {
+        let _ = tell_left(rt, jobs);
+    }
+    ended
 }
 
 // The folder of the jobs of a host, without what an earlier daemon left: processes of its jobs, and
 // their files.
 fn make_jobs(rt: &HostRuntime, folder: &str) -> io::Result<String> {
     let jobs = jobs_path(rt, folder)?;
-    end_jobs(rt, &jobs)?;
+    end_all(rt, &jobs)?;
     let _ = fs::remove_dir_all(rt, &jobs);
     make_folder(rt, folder, "jobs")?;
     Ok(jobs)
@@ -98,23 +93,50 @@ fn make_jobs_of(
     make_jobs(rt, &folder)
 }
 
-// Does the shepherd still run? Where it has ended and its job's folder is there yet, it was cut
-// off: what is left of its job is ended too.
-fn still_runs(rt: &HostRuntime, shepherd: &mut Shepherd) -> bool {
+// Has the job's end yet to be told? Where its shell has ended before, as one that was killed by
+// hand, it is started again.
+fn goes_on(starter: &Starter, shepherd: &mut Shepherd) -> bool {
     if matches!(shepherd.child.try_wait(), Ok(None)) {
         return true;
     }
-    if fs::exists(rt, &shepherd.place).unwrap_or(true) {
-        let _ = end_job(rt, &shepherd.place);
+    if !fs::exists(&starter.rt, &shepherd.job.place).unwrap_or(true) {
+        return false;
     }
-    false
+    if let Ok(child) = starter.start(&shepherd.job) {
+        shepherd.child = child;
+    }
+    true
+}
+
+// Is there still a shortage that keeps back this kill?
+fn is_kept_back(rt: &HostRuntime, place: &str) -> bool {
+    match write_kill(rt, place) {
+        Err(e) => is_shortage(&e),
+        Ok(()) => false,
+    }
+}
+
+fn starter_of(
+    rt: HostRuntime,
+    program: &str,
+    dir: &str,
+    site: &[SiteHost],
+    host: HostId,
+) -> io::Result<Starter> {
+    let alloc = rt.alloc();
+    Ok(Starter {
+        rt,
+        program: String::from_str(alloc, program)?,
+        dir: String::from_str(alloc, dir)?,
+        host: String::from_str(alloc, host_text(site, host)?)?,
+    })
 }
 
 impl ShepherdLauncher {
     /// The launcher of a host's daemon, to be opened while the daemon has the host's lock. What is
     /// left of the host's jobs is ended. Where that can't be done in about a second and a half, it
-    /// fails with `TimedOut`: else a job could run twice. Jobs have folders in the folder `jobs` of
-    /// the host's folder, which is made anew.
+    /// fails with `TimedOut`, and says on standard error what is left: else a job could run twice.
+    /// Jobs have folders in the folder `jobs` of the host's folder, which is made anew.
     pub fn open(
         rt: HostRuntime,
         program: &str,
@@ -127,12 +149,12 @@ impl ShepherdLauncher {
         let alloc = rt.alloc();
         let jobs = make_jobs_of(&rt, dir, site, host)?;
         Ok(ShepherdLauncher {
-            program: String::from_str(alloc, program)?,
-            dir: String::from_str(alloc, dir)?,
-            host,
+            starter: starter_of(rt, program, dir, site, host)?,
             site: site.to_vec(alloc)?,
             jobs,
             shepherds: Vec::new(alloc),
+            orders: Vec::new(alloc),
+            kills: Vec::new(alloc),
             rt,
             faults: 0,
         })
@@ -142,9 +164,9 @@ impl ShepherdLauncher {
     fn sweep(&mut self)
         ensures { self.new.faults ≡ self.old.faults }
     {
-        let rt = self.rt;
+        let starter = &self.starter;
         self.shepherds
-            .retain_mut(|shepherd| still_runs(&rt, shepherd));
+            .retain_mut(|shepherd| goes_on(starter, shepherd));
     }
 
     // The folder of a job.
@@ -155,75 +177,141 @@ impl ShepherdLauncher {
         path_in(&self.rt, &self.jobs, &name)
     }
 
-    // Writes what the shepherd reads.
-    fn write_job(&self, place: &str, order: &LaunchOrder, script: &[u8]) -> io::Result<()> {
-        make_private(&self.rt, place)?;
-        write_in(&self.rt, place, "script", script)?;
-        let text = order_text(&self.rt, order)?;
-        write_in(&self.rt, place, "order", text.as_bytes())
+    fn job_of(&self, order: &LaunchOrder) -> io::Result<LaunchedJob> {
+        let start = order.start;
+        Ok(LaunchedJob {
+            place: self.place_of(order.id, start)?,
+            request: request_text(&self.rt, &self.site, order.id)?,
+            start: format!(in self.rt.alloc(); "{start}")?,
+        })
     }
 
-    // The words of `setpriv` that start the shepherd.
-    fn add_words(&self, command: &mut Command, id: RequestId, start: u16) -> io::Result<()> {
-        let host = host_text(&self.site, self.host)?;
-        let request = request_text(&self.rt, &self.site, id)?;
-        let start = format!(in self.rt.alloc(); "{start}")?;
-        let words = [
-            "--pdeathsig",
-            "KILL",
-            self.program.as_str(),
-            "shepherd",
-            self.dir.as_str(),
-            host,
-            request.as_str(),
-            start.as_str(),
-        ];
-        add_words(command, &words)?;
+    // Notes the shell of a job, for which there is room.
+    fn note(&mut self, child: Child, job: LaunchedJob) -> io::Result<()>
+        ensures { self.new.faults ≡ self.old.faults }
+    {
+        self.shepherds
+            .push(Shepherd { child, job })
+            .map_err(AllocError::from)?;
         Ok(())
     }
 
-    fn spawn_by(
-        &self,
-        command: &mut Command,
-        place: &str,
-        id: RequestId,
-        start: u16,
-    ) -> io::Result<Child> {
-        self.add_words(command, id, start)?;
-        put_mark(command, place)?;
-        start_quietly(&self.rt, command)
+    // Keeps an order that a shortage keeps back.
+    fn keep(&mut self, job: LaunchedJob, order: String, script: &[u8]) -> io::Result<()>
+        ensures { self.new.faults ≡ self.old.faults }
+    {
+        let script = Vec::from_slice(self.rt.alloc(), script)?;
+        let kept = KeptOrder {
+            job,
+            order,
+            script,
+            is_killed: false,
+        };
+        self.orders.push(kept).map_err(AllocError::from)?;
+        Ok(())
     }
 
-    fn spawn(&self, place: &str, id: RequestId, start: u16) -> io::Result<Child> {
-        let mut command = Command::new(self.rt.alloc(), "setpriv")?;
-        self.spawn_by(&mut command, place, id, start)
-    }
-
-    // Writes what the shepherd reads, and starts it.
-    fn begin_in(&self, place: &str, order: &LaunchOrder, script: &[u8]) -> io::Result<Child> {
-        self.write_job(place, order, script)?;
-        self.spawn(place, order.id, order.start)
+    // Starts a job, or keeps its order.
+    fn start(&mut self, job: LaunchedJob, order: String, script: &[u8]) -> io::Result<()>
+        ensures { self.new.faults ≡ self.old.faults }
+    {
+        self.shepherds.reserve(1)?;
+        match self.starter.begin(&job, &order, script, false) {
+            Ok(child) => self.note(child, job),
+            Err(e) if is_shortage(&e) => {
+                tell_kept(&self.rt, &job.request, &e);
+                self.keep(job, order, script)
+            }
+            Err(e) => {
+                let _ = fs::remove_dir_all(&self.rt, &job.place);
+                Err(e)
+            }
+        }
     }
 
     fn begin(&mut self, order: &LaunchOrder, script: &[u8]) -> io::Result<()>
         ensures { self.new.faults ≡ self.old.faults }
     {
-        self.sweep();
-        self.shepherds.reserve(1)?;
-        let place = self.place_of(order.id, order.start)?;
-        let child = self.begin_in(&place, order, script)?;
-        self.shepherds
-            .push(Shepherd { child, place })
-            .map_err(AllocError::from)?;
-        Ok(())
+        let job = self.job_of(order)?;
+        let text = order_text(&self.rt, order)?;
+        self.start(job, text, script)
     }
 
-    // The file that the runner looks for. Where the job's folder is gone, the job has ended.
-    fn write_kill(&self, id: RequestId, start: u16) -> io::Result<()> {
+    // Starts the job of the kept order at this place, which is kept no more then.
+    fn start_kept(&mut self, place: usize) -> io::Result<()>
+        ensures { self.new.faults ≡ self.old.faults }
+    {
+        self.shepherds.reserve(1)?;
+        let Some(kept) = self.orders.get(place) else {
+            return Ok(());
+        };
+        let child = kept.start(&self.starter)?;
+        let KeptOrder { job, .. } = self.orders.remove(place);
+        self.note(child, job)
+    }
+
+    fn is_due(&self, place: usize, is_killed: bool) -> bool {
+        match self.orders.get(place) {
+            Some(kept) => kept.is_killed == is_killed,
+            None => false,
+        }
+    }
+
+    // Starts the job of the kept order at this place, if it was killed or not as is asked. Did it?
+    fn try_at(&mut self, place: usize, is_killed: bool) -> io::Result<bool>
+        ensures { self.new.faults ≡ self.old.faults }
+    {
+        if !self.is_due(place, is_killed) {
+            return Ok(false);
+        }
+        self.start_kept(place)?;
+        Ok(true)
+    }
+
+    // The same. The place of the order to be looked at next; none where a shortage goes on.
+    fn next_after(&mut self, place: usize, is_killed: bool) -> Option<usize>
+        ensures { self.new.faults ≡ self.old.faults }
+    {
+        match self.try_at(place, is_killed) {
+            Ok(true) => Some(place),
+            Err(e) if is_shortage(&e) => None,
+            _ => Some(place.saturating_add(1)),
+        }
+    }
+
+    // Starts the kept orders that were killed, or the others, up to the first that is kept back.
+    fn start_each(&mut self, is_killed: bool)
+        ensures { self.new.faults ≡ self.old.faults }
+    {
+        let mut place = 0usize;
+        for _ in 0..self.orders.len() {
+            match self.next_after(place, is_killed) {
+                Some(next) => place = next,
+                None => return,
+            }
+        }
+    }
+
+    fn retry_kills(&mut self)
+        ensures { self.new.faults ≡ self.old.faults }
+    {
+        let rt = self.rt;
+        self.kills.retain(|place| is_kept_back(&rt, place));
+    }
+
+    fn end(&mut self, id: RequestId, start: u16) -> io::Result<()>
+        ensures { self.new.faults ≡ self.old.faults }
+    {
         let place = self.place_of(id, start)?;
-        match write_in(&self.rt, &place, "kill", b"") {
-            Err(e) if !matches!(e.kind(), ErrorKind::NotFound | ErrorKind::AlreadyExists) => Err(e),
-            _ => Ok(()),
+        if note_kill(&mut self.orders, &place) {
+            return Ok(());
+        }
+        match write_kill(&self.rt, &place) {
+            Err(e) if is_shortage(&e) => {
+                self.kills.push(place).map_err(AllocError::from)?;
+                Ok(())
+            }
+            made => made,
         }
     }
 }
@@ -240,12 +328,14 @@ impl Launcher for ShepherdLauncher {
     }
 
     fn kill(&mut self, id: RequestId, start: u16) -> Result<(), Failed> {
-        self.sweep();
-        let made = self.write_kill(id, start);
+        let made = self.end(id, start);
         counted(made, &mut self.faults)
     }
 
     fn tend(&mut self) {
         self.sweep();
+        self.retry_kills();
+        self.start_each(true);
+        self.start_each(false);
     }
 }

@@ -7,18 +7,25 @@
 mod clock;
 mod counted;
 mod disk;
+mod ended;
+mod environment;
 mod folder;
+mod kept;
 mod launcher;
 mod leftovers;
+mod limits;
 mod lost;
 mod notices;
 mod order;
 mod outlet;
+mod outputs;
 mod printer;
 mod program;
 mod put;
 mod runner;
+mod shortage;
 mod site;
+mod starter;
 mod streams;
 mod wire;
 

@@ -85,6 +85,13 @@ pub fn tell_part(rt: &HostRuntime, what: &str, cause: &io::Error) {
     }
 }
 
+/// Says of a request that a shortage of the system keeps its job back.
+pub(crate) fn tell_kept(rt: &HostRuntime, request: &str, cause: &io::Error) {
+    if let Ok(text) = format!(in rt.alloc(); "{request} waits to be launched: {cause}") {
+        tell(rt, &text);
+    }
+}
+
 fn tell_request(rt: &HostRuntime, names: &[Name], id: RequestId, what: &str) -> io::Result<()> {
     let Some(name) = names.get(id.host.0 as usize) else {
         return Err(io::Error::from(ErrorKind::InvalidInput));

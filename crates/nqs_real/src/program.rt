@@ -2,7 +2,7 @@
 
 use std::alloc::AllocError;
 use std::io;
-use std::process::{Child, Command, Stdio};
+use std::process::{Child, Command, ExitStatus, Stdio};
 use std::rt::HostRuntime;
 
 /// Adds words to a command, in order.
@@ -22,16 +22,16 @@ pub(crate) fn start_quietly(rt: &HostRuntime, command: &mut Command) -> io::Resu
         .spawn(rt)
 }
 
-// Runs a program whose three streams are `/dev/null` to its end. How it ended is not looked at.
-fn run_to_its_end(rt: &HostRuntime, command: &mut Command) -> io::Result<()> {
-    start_quietly(rt, command)?.wait()?;
-    Ok(())
+/// Runs a program whose three streams are `/dev/null` to its end.
+pub(crate) fn run_to_its_end(rt: &HostRuntime, command: &mut Command) -> io::Result<ExitStatus> {
+    start_quietly(rt, command)?.wait()
 }
 
-// The same, with these words.
+// The same, with these words. How it ended is not looked at.
 fn run_with(rt: &HostRuntime, command: &mut Command, words: &[&str]) -> io::Result<()> {
     add_words(command, words)?;
-    run_to_its_end(rt, command)
+    run_to_its_end(rt, command)?;
+    Ok(())
 }
 
 // The same, of the program with this name.
@@ -46,7 +46,8 @@ fn end_by(rt: &HostRuntime, command: &mut Command, numbers: &[String]) -> io::Re
     for number in numbers {
         command.arg(number.as_str())?;
     }
-    run_to_its_end(rt, command)
+    run_to_its_end(rt, command)?;
+    Ok(())
 }
 
 /// Sends SIGKILL to the processes with these numbers. One that has ended is passed over.

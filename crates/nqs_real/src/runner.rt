@@ -3,26 +3,24 @@
 ghost use Rattle.std.specs.Prelude.{◌≡◌, None, IfOk};
 
 use crate::counted::counted;
-use crate::folder::{host_text, jobs_path, make_folder, path_in, request_text};
+use crate::ended::{forget_start, has_started, keep_end, kept_end, note_start};
+use crate::environment::set_environment;
+use crate::folder::{host_text, jobs_path, make_folder, make_host_folder, path_in, request_text};
 use crate::launcher::job_name;
 use crate::leftovers::{end_job, put_mark};
+use crate::limits::{add_limits, shell_starts};
 use crate::order::{JobOrder, read_order};
+use crate::outputs::{cut_outputs, end_with, make_output};
 use crate::program::{add_words, end_session};
+use crate::shortage::{Waits, is_shortage};
 use crate::site::SiteHost;
-use nqs_base::Bytes;
 use nqs_outside::{Failed, RunEnd, Runner};
 use nqs_types::{HostId, RequestId};
-use std::fs::{File, OpenOptions};
-use std::io::{ErrorKind, Read};
-use std::os::unix::fs::OpenOptionsExt;
+use std::io::ErrorKind;
 use std::os::unix::process::ExitStatusExt;
 use std::process::{Child, Command, ExitStatus, Stdio};
 use std::rt::HostRuntime;
-use std::time::Duration;
-use std::{fs, io, thread};
-
-/// How much of each output is read back, in bytes.
-const KEPT: u64 = 16_384;
+use std::{fs, io};
 
 /// The first wait between two looks, in milliseconds; each is twice the one before.
 const FIRST_WAIT: u64 = 1;
@@ -30,21 +28,51 @@ const FIRST_WAIT: u64 = 1;
 /// The longest wait between two looks, in milliseconds.
 const LAST_WAIT: u64 = 20;
 
+/// The longest wait between two looks at a job that was killed and goes on, in milliseconds: a
+/// minute.
+const KILLED_WAIT: u64 = 60_000;
+
+/// How often the kill of a job's session is tried that a shortage keeps back, in about a second.
+const KILLS: u32 = 10;
+
+/// The status of a job that was not run.
+const NOT_RUN: u8 = 127;
+
+/// The status of a job that SIGKILL ended.
+const KILLED: u8 = 137;
+
 /// Reads the script as `sh FILE` does, with no rights for others on the files that it makes.
 const SHELL: &str = "umask 077; . \"$0\"";
 
+/// What the error output says of a job whose shepherd ended before it.
+const LOST: &str = "nqs: the job's shepherd was lost, and what was left of the job was ended\n";
+
+/// What it says of a job whose limit of memory no shell starts with.
+const NO_MEMORY: &str = "nqs: /bin/sh can't start with so little memory\n";
+
 /// Runs the script of a job by `/bin/sh`, in a session of its own, looks every 1 to 20 milliseconds
-/// whether it has ended or is to be killed, and then ends what is left of the job and removes its
-/// files. Trusted: the programs `setpriv`, `setsid`, `prlimit`, `sh`, `kill` and `pkill`, and that
-/// no job changes the files of the folder `jobs`.
+/// whether it has ended or is to be killed, and then ends what is left of the job. How it ended is
+/// kept in the job's folder: who runs it again is told that. Trusted: the programs `setpriv`,
+/// `setsid`, `prlimit`, `sh`, `kill` and `pkill`, and that no job changes the files of the folder
+/// `jobs`.
 #[derive(Drop)]
 pub struct ShellRunner {
     rt: HostRuntime,
+    dir: String,
     jobs: String,
     work: String,
     host: HostId,
     site: Vec<SiteHost>,
     faults: u64,
+}
+
+// A start of a request: its job, whose folder has this name and this path.
+#[derive(Drop)]
+struct Job {
+    id: RequestId,
+    start: u16,
+    name: String,
+    place: String,
 }
 
 // The exit status, or 128 and the number of the signal that ended it.
@@ -56,210 +84,267 @@ fn status_number(status: ExitStatus) -> u8 {
     }
 }
 
-fn make_output(rt: &HostRuntime, place: &str, name: &str) -> io::Result<Stdio> {
-    let path = path_in(rt, place, name)?;
-    let file = OpenOptions::new()
-        .write(true)
-        .create_new(true)
-        .mode(0o600)
-        .open(rt, &path)?;
-    Ok(Stdio::from(file))
+// Ends the job's session, and the process that leads it. What a shortage keeps back is tried again
+// for about a second.
+fn end_by_session(rt: &HostRuntime, child: &mut Child) {
+    let _ = child.kill();
+    let mut waits = Waits::of_shortage();
+    for _ in 0..KILLS {
+        match end_session(rt, child.id()) {
+            Err(e) if is_shortage(&e) => waits.wait_shortage(rt),
+            _ => return,
+        }
+    }
 }
 
-fn read_output(rt: &HostRuntime, place: &str, name: &str) -> io::Result<Bytes> {
-    let path = path_in(rt, place, name)?;
-    let mut bytes = Vec::new(rt.alloc());
-    File::open(rt, &path)?.take(KEPT).read_to_end(&mut bytes)?;
-    Ok(Bytes::from_vec(bytes))
+// How the job ended, which is ended where this file is there. One that outlives the last look is an
+// `Err`.
+fn watch_until(
+    rt: &HostRuntime,
+    child: &mut Child,
+    place: &str,
+    kill: &str,
+) -> io::Result<ExitStatus> {
+    let mut waits = Waits::new(FIRST_WAIT);
+    let mut longest = LAST_WAIT;
+    for _ in 0..u32::MAX {
+        if let Some(status) = child.try_wait()? {
+            return Ok(status);
+        }
+        if fs::exists(rt, kill).unwrap_or(false) {
+            end_by_session(rt, child);
+            longest = KILLED_WAIT;
+        }
+        let _ = cut_outputs(rt, place);
+        waits.wait(rt, longest);
+    }
+    Err(io::Error::from(ErrorKind::TimedOut))
 }
 
-fn add_limit(rt: &HostRuntime, command: &mut Command, key: &str, limit: u64) -> io::Result<()> {
-    let word = format!(in rt.alloc(); "--{key}={limit}:{limit}")?;
-    command.arg(&word)?;
-    Ok(())
+fn watch(rt: &HostRuntime, child: &mut Child, place: &str) -> io::Result<ExitStatus> {
+    let kill = path_in(rt, place, "kill")?;
+    watch_until(rt, child, place, &kill)
 }
 
-// The words that have the limits of a job hold for its processes.
-fn add_limits(rt: &HostRuntime, command: &mut Command, order: &JobOrder) -> io::Result<()> {
-    if order.cpu.is_none() && order.memory.is_none() {
-        return Ok(());
+// Ends what is found of the job, in its session or in another.
+fn end_all(rt: &HostRuntime, child: &mut Child, place: &str) {
+    end_by_session(rt, child);
+    let _ = child.wait();
+    let _ = end_job(rt, place);
+}
+
+// Whatever comes, what is found of the job is ended.
+fn finish(rt: &HostRuntime, child: &mut Child, place: &str) -> io::Result<ExitStatus> {
+    let ended = watch(rt, child, place);
+    end_all(rt, child, place);
+    ended
+}
+
+// Is the job in this folder to be killed?
+fn is_killed(rt: &HostRuntime, place: &str) -> io::Result<bool> {
+    let path = path_in(rt, place, "kill")?;
+    fs::exists(rt, &path)
+}
+
+// The text of the job's order.
+fn read_text(rt: &HostRuntime, place: &str) -> io::Result<String> {
+    let path = path_in(rt, place, "order")?;
+    fs::read_to_string(rt, &path)
+}
+
+// The job's limit of memory, in bytes.
+fn memory_of(rt: &HostRuntime, place: &str) -> io::Result<Option<u64>> {
+    let text = read_text(rt, place)?;
+    Ok(read_order(&text)?.memory)
+}
+
+// Is the limit of memory of the job in this folder too small for a shell?
+fn lacks_memory(rt: &HostRuntime, place: &str) -> io::Result<bool> {
+    match memory_of(rt, place)? {
+        Some(bytes) => Ok(!shell_starts(rt, bytes)?),
+        None => Ok(false),
     }
-    command.arg("prlimit")?;
-    if let Some(seconds) = order.cpu {
-        add_limit(rt, command, "cpu", seconds)?;
+}
+
+// How the job ended, by its status. Where a signal ended it before it wrote anything, its limit of
+// memory is looked at.
+fn end_by(rt: &HostRuntime, place: &str, status: ExitStatus) -> io::Result<RunEnd> {
+    let end = end_with(rt, place, status_number(status), "")?;
+    let is_silent = end.out.len() == 0 && end.err.len() == 0;
+    if is_silent && status.signal().is_some() && lacks_memory(rt, place).unwrap_or(false) {
+        return end_with(rt, place, end.status, NO_MEMORY);
     }
-    if let Some(bytes) = order.memory {
-        add_limit(rt, command, "as", bytes)?;
+    Ok(end)
+}
+
+// The same. Where a shortage keeps it from being read, it is tried again.
+fn end_patiently(rt: &HostRuntime, place: &str, status: ExitStatus) -> io::Result<RunEnd> {
+    let mut waits = Waits::of_shortage();
+    for _ in 0..u32::MAX {
+        match end_by(rt, place, status) {
+            Err(e) if is_shortage(&e) => waits.wait_shortage(rt),
+            made => return made,
+        }
     }
-    command.arg("--")?;
-    Ok(())
+    Err(io::Error::from(ErrorKind::TimedOut))
+}
+
+// The end of a job that can't be started.
+fn end_of_failed(rt: &HostRuntime, place: &str, cause: &io::Error) -> io::Result<RunEnd> {
+    let text = format!(in rt.alloc(); "nqs: the job can't be started: {cause}\n")?;
+    end_with(rt, place, NOT_RUN, &text)
+}
+
+// The end of a job that was started, by a shepherd that isn't there any more.
+fn end_of_lost(rt: &HostRuntime, place: &str) -> io::Result<RunEnd> {
+    end_job(rt, place)?;
+    end_with(rt, place, NOT_RUN, LOST)
 }
 
 impl ShellRunner {
-    /// The runner of a host's jobs, whose launcher made their folders. Jobs run in the folder
-    /// `work` of the host's folder; where it isn't there it is made.
+    /// The runner of a host's jobs, whose launcher made their folders, in the site's folder DIR.
+    /// Jobs run in the folder `work` of the host's folder; where it isn't there it is made.
     pub fn open(
         rt: HostRuntime,
-        folder: &str,
+        dir: &str,
         site: &[SiteHost],
         host: HostId,
     ) -> io::Result<ShellRunner>
         ensures { IfOk result (λ runner. runner.faults ≡ 0) }
     {
+        let folder = make_host_folder(&rt, dir, site, host)?;
         Ok(ShellRunner {
             rt,
-            jobs: jobs_path(&rt, folder)?,
-            work: make_folder(&rt, folder, "work")?,
+            dir: String::from_str(rt.alloc(), dir)?,
+            jobs: jobs_path(&rt, &folder)?,
+            work: make_folder(&rt, &folder, "work")?,
             host,
             site: site.to_vec(rt.alloc())?,
             faults: 0,
         })
     }
 
-    fn add_shell(&self, command: &mut Command, name: &str) -> io::Result<()> {
-        let script = format!(in self.rt.alloc(); "../jobs/{name}/script")?;
+    fn add_shell(&self, command: &mut Command, job: &Job) -> io::Result<()> {
+        let script = format!(in self.rt.alloc(); "../jobs/{}/script", job.name)?;
         add_words(command, &["/bin/sh", "-c", SHELL, script.as_str()])?;
         Ok(())
     }
 
-    fn add_words(&self, command: &mut Command, name: &str, order: &JobOrder) -> io::Result<()> {
+    fn add_words(&self, command: &mut Command, job: &Job, order: &JobOrder) -> io::Result<()> {
         add_words(command, &["--pdeathsig", "KILL", "setsid"])?;
         add_limits(&self.rt, command, order)?;
-        self.add_shell(command, name)?;
+        self.add_shell(command, job)?;
         command.current_dir(&self.work)?;
         Ok(())
     }
 
-    fn set_names(
-        &self,
-        command: &mut Command,
-        id: RequestId,
-        start: u16,
-        order: &JobOrder,
-    ) -> io::Result<()> {
-        command.env("NQS_REQUEST", request_text(&self.rt, &self.site, id)?)?;
+    fn set_names(&self, command: &mut Command, job: &Job, order: &JobOrder) -> io::Result<()> {
+        let start = job.start;
+        command.env("NQS_REQUEST", request_text(&self.rt, &self.site, job.id)?)?;
         command.env("NQS_START", format!(in self.rt.alloc(); "{start}")?)?;
         command.env("NQS_HOST", host_text(&self.site, self.host)?)?;
         command.env("NQS_QUEUE", order.queue)?;
         command.env("NQS_USER", order.owner)?;
+        put_mark(command, &job.place)?;
         Ok(())
     }
 
-    fn spawn(&self, command: &mut Command, place: &str) -> io::Result<Child> {
-        command.stdout(make_output(&self.rt, place, "out")?);
-        command.stderr(make_output(&self.rt, place, "err")?);
-        command.stdin(Stdio::null()).spawn(&self.rt)
-    }
-
-    // The text of the job's order.
-    fn read_text(&self, place: &str) -> io::Result<String> {
-        let path = path_in(&self.rt, place, "order")?;
-        fs::read_to_string(&self.rt, &path)
-    }
-
     // Makes a command, which has no words yet, that of the job by its order.
-    fn add_order(
-        &self,
-        command: &mut Command,
-        name: &str,
-        id: RequestId,
-        start: u16,
-        order: &JobOrder,
-    ) -> io::Result<()> {
-        self.add_words(command, name, order)?;
-        self.set_names(command, id, start, order)
+    fn add_order(&self, command: &mut Command, job: &Job, order: &JobOrder) -> io::Result<()> {
+        set_environment(&self.rt, command, &self.dir)?;
+        self.add_words(command, job, order)?;
+        self.set_names(command, job, order)
     }
 
     // The same, by the order that the job's folder has.
-    fn add_job(
-        &self,
-        command: &mut Command,
-        place: &str,
-        name: &str,
-        id: RequestId,
-        start: u16,
-    ) -> io::Result<()> {
-        let text = self.read_text(place)?;
+    fn add_job(&self, command: &mut Command, job: &Job) -> io::Result<()> {
+        let text = read_text(&self.rt, &job.place)?;
         let order = read_order(&text)?;
-        self.add_order(command, name, id, start, &order)
+        self.add_order(command, job, &order)
+    }
+
+    fn spawn(&self, command: &mut Command, job: &Job) -> io::Result<Child> {
+        command.stdout(make_output(&self.rt, &job.place, "out")?);
+        command.stderr(make_output(&self.rt, &job.place, "err")?);
+        command.stdin(Stdio::null()).spawn(&self.rt)
     }
 
     // Starts the job by this command, which has no words yet.
-    fn spawn_job(
-        &self,
-        command: &mut Command,
-        place: &str,
-        name: &str,
-        id: RequestId,
-        start: u16,
-    ) -> io::Result<Child> {
-        self.add_job(command, place, name, id, start)?;
-        put_mark(command, place)?;
-        self.spawn(command, place)
+    fn spawn_job(&self, command: &mut Command, job: &Job) -> io::Result<Child> {
+        self.add_job(command, job)?;
+        self.spawn(command, job)
     }
 
-    fn begin(&self, place: &str, name: &str, id: RequestId, start: u16) -> io::Result<Child> {
+    fn begin(&self, job: &Job) -> io::Result<Child> {
         let mut command = Command::new(self.rt.alloc(), "setpriv")?;
-        self.spawn_job(&mut command, place, name, id, start)
+        self.spawn_job(&mut command, job)
     }
 
-    // Ends the job's session, and the process that leads it.
-    fn end(&self, child: &mut Child) {
-        let _ = end_session(&self.rt, child.id());
-        let _ = child.kill();
+    // Starts the job, whose start is noted, and runs it to its end. A start that a shortage keeps
+    // back is forgotten.
+    fn run_noted(&self, job: &Job) -> io::Result<RunEnd> {
+        let rt = &self.rt;
+        match self.begin(job) {
+            Ok(mut child) => {
+                let status = finish(rt, &mut child, &job.place)?;
+                end_patiently(rt, &job.place, status)
+            }
+            Err(e) if is_shortage(&e) => {
+                forget_start(rt, &job.place)?;
+                Err(e)
+            }
+            Err(e) => end_of_failed(rt, &job.place, &e),
+        }
     }
 
-    // How the job ended, which is ended where this file is there. One that outlives the last look
-    // is an `Err`.
-    fn watch_until(&self, child: &mut Child, kill: &str) -> io::Result<ExitStatus> {
-        let mut wait = FIRST_WAIT;
+    // Runs a job that has not been started yet, unless it was killed.
+    fn run_new(&self, job: &Job) -> io::Result<RunEnd> {
+        let is_killed = is_killed(&self.rt, &job.place)?;
+        note_start(&self.rt, &job.place)?;
+        if is_killed {
+            end_with(&self.rt, &job.place, KILLED, "")
+        } else {
+            self.run_noted(job)
+        }
+    }
+
+    // How the job ended: as it is kept, or as it ends now, which is kept then.
+    fn end_of(&self, job: &Job) -> io::Result<RunEnd> {
+        let rt = &self.rt;
+        if let Some(end) = kept_end(rt, &job.place)? {
+            return Ok(end);
+        }
+        let end = if has_started(rt, &job.place)? {
+            end_of_lost(rt, &job.place)?
+        } else {
+            self.run_new(job)?
+        };
+        let _ = keep_end(rt, &job.place, &end);
+        Ok(end)
+    }
+
+    // The same. What a shortage keeps back is tried again, until the job is started or killed.
+    fn run_patiently(&self, job: &Job) -> io::Result<RunEnd> {
+        let mut waits = Waits::of_shortage();
         for _ in 0..u32::MAX {
-            if let Some(status) = child.try_wait()? {
-                return Ok(status);
+            match self.end_of(job) {
+                Err(e) if is_shortage(&e) => waits.wait_shortage(&self.rt),
+                made => return made,
             }
-            if fs::exists(&self.rt, kill)? {
-                self.end(child);
-            }
-            thread::sleep(&self.rt, Duration::from_millis(wait));
-            wait = LAST_WAIT.min(wait.saturating_mul(2));
         }
         Err(io::Error::from(ErrorKind::TimedOut))
     }
 
-    fn watch(&self, child: &mut Child, place: &str) -> io::Result<ExitStatus> {
-        let kill = path_in(&self.rt, place, "kill")?;
-        self.watch_until(child, &kill)
-    }
-
-    // Ends what is found of the job, in its session or in another.
-    fn end_all(&self, child: &mut Child, place: &str) {
-        self.end(child);
-        let _ = child.wait();
-        let _ = end_job(&self.rt, place);
-    }
-
-    // Whatever comes, what is found of the job is ended.
-    fn finish(&self, child: &mut Child, place: &str) -> io::Result<ExitStatus> {
-        let ended = self.watch(child, place);
-        self.end_all(child, place);
-        ended
-    }
-
-    fn run_in(&self, place: &str, name: &str, id: RequestId, start: u16) -> io::Result<RunEnd> {
-        let mut child = self.begin(place, name, id, start)?;
-        let status = status_number(self.finish(&mut child, place)?);
-        drop(child);
-        let out = read_output(&self.rt, place, "out")?;
-        let err = read_output(&self.rt, place, "err")?;
-        Ok(RunEnd { status, out, err })
-    }
-
-    fn job(&self, id: RequestId, start: u16) -> io::Result<RunEnd> {
+    fn run_job(&self, id: RequestId, start: u16) -> io::Result<RunEnd> {
         let name = job_name(&self.rt, &self.site, id, start)?;
         let place = path_in(&self.rt, &self.jobs, &name)?;
-        let end = self.run_in(&place, &name, id, start);
-        let _ = fs::remove_dir_all(&self.rt, &place);
-        end
+        let job = Job {
+            id,
+            start,
+            name,
+            place,
+        };
+        self.run_patiently(&job)
     }
 }
 
@@ -269,7 +354,7 @@ impl Runner for ShellRunner {
     ghost faults = { λ runner. runner.faults };
 
     fn run(&mut self, id: RequestId, start: u16) -> Result<RunEnd, Failed> {
-        let made = self.job(id, start);
+        let made = self.run_job(id, start);
         counted(made, &mut self.faults)
     }
 }
