@@ -9,8 +9,8 @@ use Rattle.nqs_clients.proofs.Hearing.{exchanged}
 use Rattle.nqs_clients.proofs.Waiting.{stops_then}
 use Rattle.nqs_clients.proofs.exchange.exchange.Goals as goal
 
-pub returns : goal.returns
-returns g c =
+pub returns-in-Ok-send : goal.returns-in-Ok-send
+returns-in-Ok-send g c =
     exchanged c.args.port c.args.errand c.args.script.items
     (wired g.W.Wire.traffic g.W.Wire.receive_faults g.W.Wire.send_faults c.args.wire.now c.await_answer.new.wire)
     (g.W.Wire.traffic c.send.new.self) c.await_answer.result
@@ -19,4 +19,4 @@ returns g c =
     c.await_answer.ensures.heard
     (stops_then {A = Option Answer} (g.W.Wire.receive_faults c.args.wire.now) (g.W.Wire.receive_faults c.send.new.self)
         (g.W.Wire.receive_faults c.await_answer.new.wire) c.await_answer.result c.send.ensures.receive_faults c.await_answer.ensures.cause)
-    (c.await_answer.ensures.send_faults ∙ c.in-Ok-2.ensures.uncounted)
+    (c.await_answer.ensures.send_faults ∙ c.in-Ok-send.ensures.uncounted)
