@@ -76,7 +76,7 @@ fn serves(rt: HostRuntime) -> Result<(), Fail> {
     let formatted = ends(alloc, &mut machine, "format D alpha")?;
     let served = ends(alloc, &mut machine, "daemon D alpha 0")?;
     let unreceived = match &machine.wire {
-        Some(wire) => wire.received().is_empty(),
+        Some(wire) => wire.kept().is_empty(),
         None => false,
     };
     drop(machine);
