@@ -1,2 +1,4 @@
+pub mod Lost
 pub mod Marks
+pub mod Missing
 pub mod Names
