@@ -8,7 +8,7 @@ use Rattle.std.specs.declared.option.Option.{Option}
 use Rattle.std.specs.declared.option.Option.TheVariants.{Some}
 use Rattle.nqs_state.specs.State.{Plain}
 use Rattle.nqs_types.specs.declared.event.Event.{Event}
-use Rattle.nqs_outside.specs.Asked.{Arrival, Packet, Traffic, inbound, outbound, Asked, Print, Filing}
+use Rattle.nqs_outside.specs.Asked.{Arrival, Traffic, inbound, Asked, Print, Filing}
 use Rattle.nqs_outside.specs.Told.{Extends}
 use Rattle.nqs_outside.proofs.Told.{extends_none, extends_then, extends_same}
 use Rattle.nqs_serve.specs.Events.{Here, event_in, stops_by}
