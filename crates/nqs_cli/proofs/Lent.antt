@@ -8,7 +8,7 @@ pub no_disks : DisksTold
 no_disks = record { histories = λ which. record { start = []; calls = [] }; faults = λ which. 0 }
 
 pub no_wire : WireTold
-no_wire = record { received = None; sent = None; receive_faults = 0; send_faults = 0 }
+no_wire = record { traffic = None; receive_faults = 0; send_faults = 0 }
 
 pub no_outside : Outside
 no_outside = outside no_disks no_wire None None None None

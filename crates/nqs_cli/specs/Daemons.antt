@@ -59,7 +59,7 @@ module _ {D W L P O C : Type 0} (gd : disk.Ghosts D) (gw : wire.Ghosts W) (gl : 
 
 -- the same without the disks
 abbrev pub telling_of : Outside → Telling
-telling_of o = telling o.wire.received o.wire.sent o.asked o.prints o.filings o.given
+telling_of o = telling o.wire.traffic o.asked o.prints o.filings o.given
 
 -- the parts that a daemon asks for, in order
 abbrev pub daemon_parts : List ℕ → HostId → ℕ → Outside → List Lent

@@ -4,7 +4,7 @@ use Rattle.std.specs.declared.option.Option.{Option}
 use Rattle.std.specs.declared.result.Result.{Result}
 use Rattle.nqs_types.specs.declared.ids.HostId.{HostId}
 use Rattle.nqs_types.specs.declared.world.Which.{Which}
-use Rattle.nqs_outside.specs.Asked.{Arrival, Packet, Asked, Print, Filing, Job}
+use Rattle.nqs_outside.specs.Asked.{Traffic, Asked, Print, Filing, Job}
 use Rattle.nqs_outside.specs.Causes.{Rose}
 use Rattle.nqs_outside.specs.History.{History}
 use Rattle.nqs_outside.specs.Told.{Extends}
@@ -18,16 +18,17 @@ pub record DisksTold : Type 0 where
   pub histories : Which → History
   pub faults : Which → ℕ
 
--- a wire: what came, what was to be sent, and how often a call has failed
+-- a wire: what came and what was to be sent, call by call, and how often a call has failed
 pub record WireTold : Type 0 where
-  pub received : Option (List Arrival)
-  pub sent : Option (List Packet)
+  pub traffic : Option (List Traffic)
   pub receive_faults : ℕ
   pub send_faults : ℕ
 
--- what was handed over, and for whom: the names of a site's hosts, or a part
+-- what was handed over, and for whom: the names of a site's hosts, an answer, or a part
 pub data Lent : Type 0 where
   names_of : (dir : List ℕ) (names : List (List ℕ)) → Lent
+  -- the answer to which disk of a host isn't there, where another has bytes
+  look_of : (dir : List ℕ) (host : HostId) (missing : Option Which) → Lent
   disks_of : (dir : List ℕ) (host : HostId) (told : DisksTold) → Lent
   -- the wire of a host's daemon, or one of a client or shepherd, and its port
   wire_of : (dir : List ℕ) (host : Option HostId) (port : ℕ) (told : WireTold) → Lent
@@ -50,6 +51,7 @@ pub data Back : Type 0 where
 -- the part that was handed over, as it was
 abbrev pub as_lent : Lent → List Back
 as_lent (names_of dir names) = []
+as_lent (look_of dir host missing) = []
 as_lent (disks_of dir host told) = disks_back host told ∷ []
 as_lent (wire_of dir host port told) = wire_back told ∷ []
 as_lent (launcher_of dir host asked) = launcher_back asked ∷ []
@@ -64,7 +66,7 @@ disks_told {D} g disks = record { histories = histories_of g.history disks; faul
 
 -- what a wire tells
 abbrev pub wire_told : {W : Type 0} → wire.Ghosts W → W → WireTold
-wire_told {W} g w = record { received = g.received w; sent = g.sent w; receive_faults = g.receive_faults w; send_faults = g.send_faults w }
+wire_told {W} g w = record { traffic = g.traffic w; receive_faults = g.receive_faults w; send_faults = g.send_faults w }
 
 -- what a machine tells: what it handed over, what came back, and how often a call of it has failed
 pub record MachineTold : Type 0 where

@@ -1,6 +1,6 @@
 -- What the program does: which parts were handed over and came back, what was done with them
 -- between, and the status.
-use Rattle.std.specs.Prelude.{◌≡◌, ◌⊎◌, ℕ, ◌<◌, ◌&&◌, nat_le, Bool, if◌then◌else◌, List, [], ◌∷◌, length, take, reverse}
+use Rattle.std.specs.Prelude.{◌≡◌, ◌⊎◌, ℕ, ◌<◌, ◌&&◌, nat_le, Bool, true, false, if◌then◌else◌, List, [], ◌∷◌, length, take, reverse}
 use Rattle.std.specs.List.{flat_map}
 use Rattle.std.specs.Option.{option_map}
 use Rattle.std.specs.declared.option.Option.{Option}
@@ -8,6 +8,7 @@ use Rattle.std.specs.declared.option.Option.TheVariants.{None, Some}
 use Rattle.nqs_types.specs.declared.ids.HostId.{HostId}
 use Rattle.nqs_types.specs.declared.ids.Named.{Named}
 use Rattle.nqs_types.specs.declared.ids.RequestId.{RequestId}
+use Rattle.nqs_types.specs.declared.world.Which.{Which}
 use Rattle.nqs_rules.specs.Find.{host_at}
 use Rattle.nqs_words.specs.Values.{name_of}
 use Rattle.nqs_outside.specs.Asked.{Job}
@@ -20,9 +21,9 @@ use Rattle.nqs_clients.specs.Sides.{Wired, IsUnwritten}
 use Rattle.nqs_clients.specs.declared.shepherding.ShepherdEnd.{ShepherdEnd}
 use Rattle.nqs_clients.specs.declared.shepherding.ShepherdEnd.TheVariants as shepherd
 use Rattle.nqs_clients.specs.declared.status.NqsStatus.{NqsStatus}
-use Rattle.nqs_clients.specs.declared.status.NqsStatus.TheVariants.{Done, BadWords, Memory, NoAnswer, WireFault, MachineFault}
+use Rattle.nqs_clients.specs.declared.status.NqsStatus.TheVariants.{Done, BadWords, NotNqs, Memory, NoAnswer, WireFault, MachineFault}
 use Rattle.nqs_cli.specs.Forms.{Words, form_of}
-use Rattle.nqs_cli.specs.Parts.{DisksTold, WireTold, Lent, Back, as_lent, names_of, disks_of, wire_of, runner_of}
+use Rattle.nqs_cli.specs.Parts.{DisksTold, WireTold, Lent, Back, as_lent, names_of, look_of, disks_of, wire_of, runner_of}
 use Rattle.nqs_cli.specs.Formats.{Formats}
 use Rattle.nqs_cli.specs.Daemons.{Outside, daemon_parts, Daemons}
 use Rattle.nqs_cli.specs.declared.form.Form.{Form}
@@ -89,10 +90,8 @@ without_dir (tool ∷ dir ∷ more) = tool ∷ more
 abbrev pub wired_of : WireTold → WireTold → Wired
 wired_of was now =
     record {
-      received = was.received;
-      received_now = now.received;
-      sent = was.sent;
-      sent_now = now.sent;
+      traffic = was.traffic;
+      traffic_now = now.traffic;
       receive_faults = was.receive_faults;
       receive_faults_now = now.receive_faults;
       send_faults = was.send_faults;
@@ -134,7 +133,7 @@ shepherd_parts at port runs told = runner_of at.dir at.me runs ∷ wire_of at.di
 abbrev pub DoesShepherd : Place → RequestId → ℕ → Parts → NqsStatus → Type 0
 DoesShepherd at id start parts status = (port : ℕ) × (runs runs_now : Option (List Job)) × (was now : WireTold) × (end : ShepherdEnd)
     × (parts ≡ lent_and_back (shepherd_parts at port runs was) (shepherd_parts at port runs_now now)) × (status ≡ status_of_shepherd end)
-    × Shepherds at.me port id start runs runs_now was.received now.received was.sent now.sent end
+    × Shepherds at.me port id start runs runs_now was.traffic now.traffic end
     × (end ≡ shepherd.WireFault → Rose was.receive_faults now.receive_faults)
 
 -- a shepherd did so, where the request that was named may be one of the site
@@ -161,6 +160,36 @@ abbrev pub DoesOrWants : Bool → Place → Form → Words → Fed → Sunk → 
 DoesOrWants tells at form words source sink faults faults_now parts status = Does tells at form words source sink parts status
     ⊎ (IsWanting faults faults_now status × IsUntouched source sink × ((all : List Lent) × Asks at form all × BreaksOff all parts))
 
+-- a form that asks for the disks of a host
+abbrev pub has_disks : Form → Bool
+has_disks Format = true
+has_disks (Daemon turns) = true
+has_disks Client = false
+has_disks (Shepherd named start) = false
+
+-- a look at the disks of the host came before the parts were handed over
+abbrev pub behind_look : Place → Option Which → Parts → Parts
+behind_look at missing parts = record { lent = look_of at.dir at.me missing ∷ parts.lent; back = parts.back }
+
+-- By the answer of the look: no disk is missing, and it was done; or one isn't there, though another
+-- has bytes, and nothing was handed over, so that nothing was touched.
+abbrev pub HasLooked : Bool → Place → Option Which → Form → Words → Fed → Sunk → ℕ → ℕ → Parts → NqsStatus → Type 0
+HasLooked tells at None form words source sink faults faults_now parts status = DoesOrWants tells at form words source sink faults faults_now parts status
+HasLooked tells at (Some which) form words source sink faults faults_now parts status =
+    (parts ≡ no_parts) × (status ≡ NotNqs) × IsUntouched source sink
+
+-- the machine is asked which disk is missing, and then it is done
+abbrev pub LooksFirst : Bool → Place → Form → Words → Fed → Sunk → ℕ → ℕ → Parts → NqsStatus → Type 0
+LooksFirst tells at form words source sink faults faults_now parts status =
+    (IsWanting faults faults_now status × IsUntouched source sink × (parts ≡ no_parts))
+    ⊎ ((missing : Option Which) × (some : Parts) × (parts ≡ behind_look at missing some)
+    × HasLooked tells at missing form words source sink faults faults_now some status)
+
+-- what the form asks for at a host: a form that asks for its disks looks first
+abbrev pub RunsHere : Bool → Bool → Place → Form → Words → Fed → Sunk → ℕ → ℕ → Parts → NqsStatus → Type 0
+RunsHere true tells at form words source sink faults faults_now parts status = LooksFirst tells at form words source sink faults faults_now parts status
+RunsHere false tells at form words source sink faults faults_now parts status = DoesOrWants tells at form words source sink faults faults_now parts status
+
 -- the site was read, and no part handed over
 abbrev pub IsNoHost : Fed → Sunk → Parts → NqsStatus → Type 0
 IsNoHost source sink parts status = (parts ≡ no_parts) × (status ≡ BadWords) × IsUntouched source sink
@@ -169,7 +198,7 @@ IsNoHost source sink parts status = (parts ≡ no_parts) × (status ≡ BadWords
 abbrev pub RunsAt : Bool → List ℕ → List (List ℕ) → Option HostId → Form → Words → Fed → Sunk → ℕ → ℕ → Parts → NqsStatus → Type 0
 RunsAt tells dir names None form words source sink faults faults_now parts status = IsNoHost source sink parts status
 RunsAt tells dir names (Some me) form words source sink faults faults_now parts status =
-    DoesOrWants tells (record { dir = dir; names = names; me = me }) form words source sink faults faults_now parts status
+    RunsHere (has_disks form) tells (record { dir = dir; names = names; me = me }) form words source sink faults faults_now parts status
 
 -- a site was read before the parts were handed over
 abbrev pub behind_site : List ℕ → List (List ℕ) → Parts → Parts

@@ -107,7 +107,7 @@ fn with_runner<M: Machine>(
     ensures parts { ((port : ℕ) × (was now : WireTold) × (end : ShepherdEnd)
         × Extends (M.told machine.old).lent (M.told machine.new).lent (wire_of dir.now None port was ∷ [])
         × Extends (M.told machine.old).back (M.told machine.new).back (wire_back now ∷ []) × (result ≡ status_of_shepherd end)
-        × Shepherds host port id start (M.R.runs runner.old) (M.R.runs runner.new) was.received now.received was.sent now.sent end
+        × Shepherds host port id start (M.R.runs runner.old) (M.R.runs runner.new) was.traffic now.traffic end
         × (end ≡ ShepherdEnd.WireFault → Rose was.receive_faults now.receive_faults))
         ⊎ (IsWanting (M.told machine.old).faults (M.told machine.new).faults result × (M.R.runs runner.new ≡ M.R.runs runner.old)
         × Extends (M.told machine.old).lent (M.told machine.new).lent [] × Extends (M.told machine.old).back (M.told machine.new).back []) }

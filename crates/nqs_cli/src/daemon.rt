@@ -96,6 +96,7 @@ fn boot_and_serve<
             let end = serve(
                 alloc, &mut node, wire, launcher, printer, outlet, clock, turns,
             );
+            notices.served(node.state(), &end);
             (status_of_serve(end), node.close())
         }
     }
@@ -133,9 +134,13 @@ fn load_and_serve<
     // record: on another host's disks that would be a restart of it, and what runs there would
     // start again or be lost.
     match Store::load(alloc, disks) {
-        Err((fault, disks)) => (status_of_fault(fault), disks),
+        Err((fault, disks)) => {
+            notices.not_loaded(&fault);
+            (status_of_fault(fault), disks)
+        }
         Ok((store, state)) => {
             if !is_here(me, names, &state) {
+                notices.not_here(me, names, &state);
                 return (NqsStatus::NotNqs, store.close());
             }
             boot_and_serve(

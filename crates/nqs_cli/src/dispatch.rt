@@ -6,6 +6,7 @@ ghost use Rattle.nqs_outside.specs.Told.{Extends};
 ghost use Rattle.nqs_outside.specs.Streams.{fed, sunk};
 ghost use Rattle.nqs_cli.specs.Parts.{Lent};
 ghost use Rattle.nqs_cli.specs.Runs.{Parts as Lists, IsWanting, Tends, Asks, BreaksOff, DoesOrWants, Runs, RunsAt, RunsForm, RunsWords, host_of, host_named};
+ghost use Rattle.nqs_cli.specs.Runs.{has_disks, LooksFirst, RunsHere};
 ghost use Rattle.nqs_cli.specs.Runs.{request_named};
 
 use crate::asking::{ask, tend};
@@ -123,6 +124,74 @@ fn run_at<M: Machine, S: Source, K: Sink>(
     }
 }
 
+// Whether a form asks for the disks of a host.
+fn has_disks(form: &Form) -> bool
+    ensures { result ≡ has_disks form.now }
+{
+    match form {
+        Form::Format | Form::Daemon(_) => true,
+        Form::Client | Form::Shepherd(_, _) => false,
+    }
+}
+
+// Does what a form asks for, at a host of the site, where none of the host's disks is missing.
+fn run_looking<M: Machine, S: Source, K: Sink>(
+    alloc: Global,
+    form: Form,
+    words: &[String],
+    dir: &str,
+    site: &[Name],
+    host: HostId,
+    machine: &mut M,
+    input: &mut S,
+    out: &mut K,
+) -> NqsStatus
+    requires few { length site.now ≤ 16 }
+    requires within { host.0 < length site.now }
+    requires there { is_of_site (length site.now) host ≡ true }
+    ensures parts { (parts : Lists) × Extends (M.told machine.old).lent (M.told machine.new).lent parts.lent
+        × Extends (M.told machine.old).back (M.told machine.new).back parts.back
+        × LooksFirst M.D.tells (record { dir = dir.now; names = site.now; me = host }) form (map (λ s. string_bytes s) words.now)
+        (fed S.left S.faults input.old input.new) (sunk K.taken K.faults K.stalls out.old out.new)
+        (M.told machine.old).faults (M.told machine.new).faults parts result }
+    ensures later { (M.told machine.old).faults ≤ (M.told machine.new).faults }
+{
+    match machine.missing_disk(dir, host) {
+        Err(end) => status_of_end(end),
+        Ok(Some(_)) => NqsStatus::NotNqs,
+        Ok(None) => run_at(alloc, form, words, dir, site, host, machine, input, out),
+    }
+}
+
+// The same; a form that asks for the host's disks looks first whether one is missing.
+fn run_here<M: Machine, S: Source, K: Sink>(
+    alloc: Global,
+    form: Form,
+    words: &[String],
+    dir: &str,
+    site: &[Name],
+    host: HostId,
+    machine: &mut M,
+    input: &mut S,
+    out: &mut K,
+) -> NqsStatus
+    requires few { length site.now ≤ 16 }
+    requires within { host.0 < length site.now }
+    requires there { is_of_site (length site.now) host ≡ true }
+    ensures parts { (parts : Lists) × Extends (M.told machine.old).lent (M.told machine.new).lent parts.lent
+        × Extends (M.told machine.old).back (M.told machine.new).back parts.back
+        × RunsHere (has_disks form) M.D.tells (record { dir = dir.now; names = site.now; me = host }) form (map (λ s. string_bytes s) words.now)
+        (fed S.left S.faults input.old input.new) (sunk K.taken K.faults K.stalls out.old out.new)
+        (M.told machine.old).faults (M.told machine.new).faults parts result }
+    ensures later { (M.told machine.old).faults ≤ (M.told machine.new).faults }
+{
+    if has_disks(&form) {
+        run_looking(alloc, form, words, dir, site, host, machine, input, out)
+    } else {
+        run_at(alloc, form, words, dir, site, host, machine, input, out)
+    }
+}
+
 // Does what a form asks for at the host of the site that a word names.
 fn run_named<M: Machine, S: Source, K: Sink>(
     alloc: Global,
@@ -145,7 +214,7 @@ fn run_named<M: Machine, S: Source, K: Sink>(
 {
     match host_named(site, name) {
         None => NqsStatus::BadWords,
-        Some(host) => run_at(alloc, form, words, dir, site, host, machine, input, out),
+        Some(host) => run_here(alloc, form, words, dir, site, host, machine, input, out),
     }
 }
 

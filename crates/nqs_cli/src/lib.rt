@@ -15,6 +15,7 @@ mod lending;
 mod machine;
 mod parts;
 mod real;
+mod told;
 
 pub use dispatch::run;
 pub use entry::program;

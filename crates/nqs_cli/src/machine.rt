@@ -7,11 +7,12 @@ ghost use Rattle.nqs_outside.specs.History.{IsQuiet};
 ghost use Rattle.nqs_outside.specs.Told.{Extends};
 ghost use Rattle.nqs_store.specs.Disks.{histories_of};
 
-use nqs_base::{Memory, NameList};
+use nqs_base::{Memory, Name, NameList};
 use nqs_outside::{Clock, Disk, Launcher, Outlet, Printer, Runner, Wire};
+use nqs_serve::ServeEnd;
 use nqs_state::HostState;
-use nqs_store::Disks;
-use nqs_types::{HostId, Output};
+use nqs_store::{Disks, LoadFault};
+use nqs_types::{HostId, Output, Which};
 
 /// Why a part can't be had.
 #[derive(Debug, Drop)]
@@ -24,15 +25,25 @@ pub enum MachineEnd {
 
 /// What a daemon tells its operator, beside all that its host does.
 pub trait Notices {
-    /// What the boot of this host said: which requests ran when it had stopped, and start again or
-    /// are lost.
+    /// Why the host's disks can't be loaded.
+    fn not_loaded(&self, fault: &LoadFault);
+
+    /// The disks are those of another host, or of another site, than this one of a site with these
+    /// names.
+    fn not_here(&self, me: HostId, names: &[Name], state: &HostState);
+
+    /// The host has booted, and what its boot said: which requests ran when it had stopped, and
+    /// start again or are lost.
     fn booted(&self, state: &HostState, said: &[Output]);
+
+    /// The host has served, until this end.
+    fn served(&self, state: &HostState, end: &ServeEnd);
 }
 
 /// The machine. `dir` is the folder of a site; every part that was handed out is to be handed back.
 pub trait Machine: Notices {
     ghost use Rattle.nqs_cli.specs.Parts.{MachineTold, HandsOver, TakesBack, disks_told, wire_told};
-    ghost use Rattle.nqs_cli.specs.Parts.{names_of, disks_of, wire_of, launcher_of, printer_of, outlet_of, runner_of, the_clock};
+    ghost use Rattle.nqs_cli.specs.Parts.{names_of, look_of, disks_of, wire_of, launcher_of, printer_of, outlet_of, runner_of, the_clock};
     ghost use Rattle.nqs_cli.specs.Parts.{disks_back, wire_back, launcher_back, printer_back, outlet_back, runner_back, clock_back};
 
     type D: Disk + Drop;
@@ -58,6 +69,12 @@ pub trait Machine: Notices {
         ensures some { IfOk result (λ site. 1 ≤ length site) }
         ensures few { IfOk result (λ site. length site ≤ 16) }
         ensures hands { HandsOver (told self.old) (told self.new) (λ site. names_of dir.now site) MachineEnd.Failed result };
+
+    /// Which disk of a host isn't there, where another one has bytes: the first in the order `root`,
+    /// `first`, `second`, `spool`. It is asked before the disks are, and they aren't where one is
+    /// missing: it would be made anew, and the host would be another one.
+    fn missing_disk(&mut self, dir: &str, host: HostId) -> Result<Option<Which>, MachineEnd>
+        ensures { HandsOver (told self.old) (told self.new) (λ missing. look_of dir.now host missing) MachineEnd.Failed result };
 
     /// The disks of a host, on which nothing is pending. No other program has them until they are
     /// handed back.

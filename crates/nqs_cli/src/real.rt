@@ -1,21 +1,27 @@
 //! The machine that the program runs on: files, a socket and child programs, made by `nqs_real`.
 //!
-//! It does nothing but read the site's file, make the adapters and take them back. It is trusted to
-//! hand out the parts of the folder and the host that it is asked for.
+//! It does nothing but read the site's file, make the adapters and take them back, and say on
+//! standard error what can't be had. It is trusted to hand out the parts of the folder and the host
+//! that it is asked for.
 
 ghost use Rattle.std.specs.Prelude.{◌≡◌, ◌≤◌, [], None, length, IfOk, IsErrOf};
 ghost use Rattle.nqs_outside.specs.Causes.{Rose};
 
 use crate::machine::{Machine, MachineEnd, Notices};
-use nqs_base::{Memory, NameList};
+use crate::told::{
+    tell_end, tell_fault, tell_launcher, tell_line, tell_lock, tell_missing, tell_others,
+    tell_port, tell_site, tell_start,
+};
+use nqs_base::{Memory, Name, NameList};
 use nqs_real::{
     FileDisk, FileOutlet, FilePrinter, HostLock, ShellRunner, ShepherdLauncher, SiteFault,
-    SiteHost, SystemClock, UdpWire, make_host_folder, names_of, open_disks, own_program, read_site,
-    tell_boot,
+    SiteHost, SystemClock, UdpWire, host_folder, make_host_folder, missing_disk, names_of,
+    open_disks, own_program, read_site, tell_part,
 };
+use nqs_serve::ServeEnd;
 use nqs_state::HostState;
-use nqs_store::Disks;
-use nqs_types::{HostId, Output};
+use nqs_store::{Disks, LoadFault};
+use nqs_types::{HostId, Output, Which};
 use std::alloc::AllocError;
 use std::fs::File;
 use std::io;
@@ -59,18 +65,75 @@ impl From<AllocError> for PartFault {
     }
 }
 
-fn site_at(rt: &HostRuntime, dir: &str) -> Result<Vec<SiteHost>, PartFault>
-    ensures { IfOk result (λ site. (1 ≤ length site.items) × (length site.items ≤ 16)) }
-{
+fn site_bytes(rt: &HostRuntime, dir: &str) -> io::Result<Vec<u8>> {
     let mut bytes = Vec::new(rt.alloc());
     let path = format!(in rt.alloc(); "{dir}/site")?;
     File::open(rt, path)?
         .take(LONGEST_SITE)
         .read_to_end(&mut bytes)?;
-    match read_site(rt.alloc(), &bytes) {
+    Ok(bytes)
+}
+
+fn site_in(rt: &HostRuntime, dir: &str, bytes: &[u8]) -> Result<Vec<SiteHost>, PartFault>
+    ensures { IfOk result (λ site. (1 ≤ length site.items) × (length site.items ≤ 16)) }
+{
+    match read_site(rt.alloc(), bytes) {
         Ok(site) => Ok(site),
-        Err(SiteFault::Form) => Err(PartFault::Call),
+        Err(SiteFault::Line(line)) => {
+            let _ = tell_line(rt, dir, line);
+            Err(PartFault::Call)
+        }
         Err(SiteFault::Memory(memory)) => Err(PartFault::Memory(memory)),
+    }
+}
+
+fn site_at(rt: &HostRuntime, dir: &str) -> Result<Vec<SiteHost>, PartFault>
+    ensures { IfOk result (λ site. (1 ≤ length site.items) × (length site.items ≤ 16)) }
+{
+    match site_bytes(rt, dir) {
+        Ok(bytes) => site_in(rt, dir, &bytes),
+        Err(e) => {
+            let _ = tell_site(rt, dir, &e);
+            Err(PartFault::from(e))
+        }
+    }
+}
+
+// The lock of a host's folder.
+fn lock_of(rt: &HostRuntime, folder: &str) -> Result<HostLock, PartFault> {
+    match HostLock::take(rt, folder) {
+        Ok(lock) => Ok(lock),
+        Err(e) => {
+            let _ = tell_lock(rt, folder, &e);
+            Err(PartFault::from(e))
+        }
+    }
+}
+
+// The folder of a host, which is made where it isn't there.
+fn made_folder(
+    rt: &HostRuntime,
+    dir: &str,
+    site: &[SiteHost],
+    host: HostId,
+) -> Result<String, PartFault> {
+    had(
+        rt,
+        "the host's folder",
+        make_host_folder(rt, dir, site, host),
+    )
+}
+
+// What a call gave, where it failed with its cause said under this name.
+fn had<T: Drop>(rt: &HostRuntime, what: &str, made: io::Result<T>) -> Result<T, PartFault>
+    ensures { IfOk result (λ part. made ≡ Ok part) }
+{
+    match made {
+        Ok(part) => Ok(part),
+        Err(e) => {
+            tell_part(rt, what, &e);
+            Err(PartFault::from(e))
+        }
     }
 }
 
@@ -121,8 +184,8 @@ impl RealMachine {
         ensures { self.new.faults ≡ self.old.faults }
     {
         let site = site_at(&self.rt, dir)?;
-        let folder = make_host_folder(&self.rt, dir, &site, host)?;
-        self.lock = Some(HostLock::take(&self.rt, &folder)?);
+        let folder = made_folder(&self.rt, dir, &site, host)?;
+        self.lock = Some(lock_of(&self.rt, &folder)?);
         Ok(folder)
     }
 
@@ -130,7 +193,7 @@ impl RealMachine {
         ensures { self.new.faults ≡ self.old.faults }
     {
         let folder = self.locked_folder(dir, host)?;
-        let disks = open_disks(&self.rt, &folder)?;
+        let disks = had(&self.rt, "the disks", open_disks(&self.rt, &folder))?;
         Ok(Disks {
             root: disks.root,
             first: disks.first,
@@ -139,44 +202,96 @@ impl RealMachine {
         })
     }
 
+    // The disk that isn't there, where another one has bytes. Its name is said.
+    fn look_at(&self, dir: &str, host: HostId) -> Result<Option<Which>, PartFault> {
+        let site = site_at(&self.rt, dir)?;
+        let folder = host_folder(&self.rt, dir, &site, host)?;
+        let missing = had(&self.rt, "the disks", missing_disk(&self.rt, &folder))?;
+        if let Some(which) = missing {
+            let _ = tell_missing(&self.rt, &folder, which);
+        }
+        Ok(missing)
+    }
+
+    fn own_wire(&self, site: &[SiteHost], host: HostId) -> Result<UdpWire, PartFault> {
+        match UdpWire::of_daemon(self.rt, site, host, WAIT) {
+            Ok(wire) => Ok(wire),
+            Err(e) => {
+                let _ = tell_port(&self.rt, site, host, &e);
+                Err(PartFault::from(e))
+            }
+        }
+    }
+
     fn wire_of(&self, dir: &str, host: Option<HostId>) -> Result<(UdpWire, u16), PartFault> {
         let site = site_at(&self.rt, dir)?;
         match host {
-            None => Ok(UdpWire::of_client(self.rt, &site, WAIT)?),
-            Some(host) => {
-                let wire = UdpWire::of_daemon(self.rt, &site, host, WAIT)?;
-                Ok((wire, 0))
-            }
+            None => had(
+                &self.rt,
+                "a socket",
+                UdpWire::of_client(self.rt, &site, WAIT),
+            ),
+            Some(host) => Ok((self.own_wire(&site, host)?, 0)),
         }
     }
 
     fn launcher_of(&self, dir: &str, host: HostId) -> Result<ShepherdLauncher, PartFault> {
         let site = site_at(&self.rt, dir)?;
-        let program = own_program(&self.rt)?;
-        Ok(ShepherdLauncher::open(self.rt, &program, dir, &site, host)?)
+        let program = had(&self.rt, "the program's own path", own_program(&self.rt))?;
+        match ShepherdLauncher::open(self.rt, &program, dir, &site, host) {
+            Ok(launcher) => Ok(launcher),
+            Err(e) => {
+                tell_launcher(&self.rt, &e);
+                Err(PartFault::from(e))
+            }
+        }
     }
 
     fn printer_of(&self, dir: &str, host: HostId) -> Result<FilePrinter, PartFault> {
         let site = site_at(&self.rt, dir)?;
-        let folder = make_host_folder(&self.rt, dir, &site, host)?;
-        Ok(FilePrinter::open(self.rt, &folder, &site)?)
+        let folder = made_folder(&self.rt, dir, &site, host)?;
+        had(
+            &self.rt,
+            "the folder printed",
+            FilePrinter::open(self.rt, &folder, &site),
+        )
     }
 
     fn outlet_of(&self, dir: &str, host: HostId) -> Result<FileOutlet, PartFault> {
         let site = site_at(&self.rt, dir)?;
-        let folder = make_host_folder(&self.rt, dir, &site, host)?;
-        Ok(FileOutlet::open(self.rt, &folder)?)
+        let folder = made_folder(&self.rt, dir, &site, host)?;
+        had(
+            &self.rt,
+            "the folder output",
+            FileOutlet::open(self.rt, &folder),
+        )
     }
 
     fn runner_of(&self, dir: &str, host: HostId) -> Result<ShellRunner, PartFault> {
         let site = site_at(&self.rt, dir)?;
-        Ok(ShellRunner::open(self.rt, dir, &site, host)?)
+        had(
+            &self.rt,
+            "the folder work",
+            ShellRunner::open(self.rt, dir, &site, host),
+        )
     }
 }
 
 impl Notices for RealMachine {
+    fn not_loaded(&self, fault: &LoadFault) {
+        tell_fault(&self.rt, fault);
+    }
+
+    fn not_here(&self, me: HostId, names: &[Name], state: &HostState) {
+        let _ = tell_others(&self.rt, me, names, state);
+    }
+
     fn booted(&self, state: &HostState, said: &[Output]) {
-        tell_boot(&self.rt, state.site.as_slice(), said);
+        let _ = tell_start(&self.rt, state, said);
+    }
+
+    fn served(&self, state: &HostState, end: &ServeEnd) {
+        let _ = tell_end(&self.rt, state, end);
     }
 }
 
@@ -205,6 +320,11 @@ impl Machine for RealMachine {
             Ok(names) => Ok(names),
             Err(fault) => Err(self.fault(fault)),
         }
+    }
+
+    fn missing_disk(&mut self, dir: &str, host: HostId) -> Result<Option<Which>, MachineEnd> {
+        let made = self.look_at(dir, host);
+        self.answer(made)
     }
 
     fn disks(&mut self, dir: &str, host: HostId) -> Result<Disks<FileDisk>, MachineEnd> {

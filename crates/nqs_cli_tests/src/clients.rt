@@ -2,7 +2,7 @@
 
 use nqs_base::{Bytes, Items, Memory, Name};
 use nqs_clients::{NqsStatus, ShepherdEnd, client, shepherd};
-use nqs_fakes::{Item, MemRunner, MemWire};
+use nqs_fakes::{Item, Kept, MemRunner, MemWire};
 use nqs_outside::{Address, ListSource, MemSink, RunEnd};
 use nqs_types::{HostId, RequestId};
 use std::alloc::Global;
@@ -44,11 +44,32 @@ fn alpha() -> Name {
     }
 }
 
+// Puts a datagram that comes only once there were so many sends.
+fn put_reply(
+    alloc: Global,
+    sends: u64,
+    datagram: &[u8],
+    script: &mut Items<Item>,
+) -> Result<(), Memory> {
+    let bytes = Vec::from_slice(alloc, datagram)?;
+    script.push(Item::Reply(sends, Bytes::from_vec(bytes)))?;
+    Ok(())
+}
+
+// A wire to which these come, but nothing before the first send.
 fn wire(alloc: Global, datagrams: &[&[u8]]) -> Result<MemWire, Memory> {
     let mut script = Items::new(alloc);
     for datagram in datagrams {
-        let bytes = Vec::from_slice(alloc, datagram)?;
-        script.push(Item::Datagram(Bytes::from_vec(bytes)))?;
+        put_reply(alloc, 1, datagram, &mut script)?;
+    }
+    Ok(MemWire::new(alloc, script, Vec::new(alloc), Vec::new(alloc)))
+}
+
+// A wire to which these come, each behind a send of its own.
+fn wire_of_turns(alloc: Global, datagrams: &[&[u8]]) -> Result<MemWire, Memory> {
+    let mut script = Items::new(alloc);
+    for (turn, datagram) in datagrams.iter().enumerate() {
+        put_reply(alloc, turn as u64 + 1, datagram, &mut script)?;
     }
     Ok(MemWire::new(alloc, script, Vec::new(alloc), Vec::new(alloc)))
 }
@@ -61,10 +82,35 @@ fn words(alloc: Global, words: &[&str]) -> Result<Vec<String>, Memory> {
     Ok(list)
 }
 
-fn is_sent(wire: &MemWire, count: usize, bytes: &[u8]) -> bool {
-    wire.sent().len() == count
-        && wire.sent().iter().all(|sent| sent.to == Address::Host(HostId(0))
-            && sent.bytes.as_slice() == bytes)
+// Were these bytes to be sent to the host?
+fn is_sent(kept: &Kept, bytes: &[u8]) -> bool {
+    match kept {
+        Kept::Outbound(to, sent) => *to == Address::Host(HostId(0)) && sent.as_slice() == bytes,
+        _ => false,
+    }
+}
+
+// Was it a receive?
+fn is_receive(kept: &Kept) -> bool {
+    !matches!(kept, Kept::Outbound(_, _))
+}
+
+// Was this sent once, and then so many receives made?
+fn is_asked(wire: &MemWire, bytes: &[u8], receives: usize) -> bool {
+    let Some((ask, more)) = wire.kept().split_first() else {
+        return false;
+    };
+    is_sent(ask, bytes) && more.len() == receives && more.iter().all(is_receive)
+}
+
+// Was this sent so often, and a receive made behind each?
+fn is_told(wire: &MemWire, bytes: &[u8], turns: usize) -> bool {
+    wire.kept().len() == 2 * turns
+        && wire.kept().iter().enumerate().all(|(place, kept)| if place % 2 == 0 {
+            is_sent(kept, bytes)
+        } else {
+            is_receive(kept)
+        })
 }
 
 // Whether the client ends so, and writes this.
@@ -91,7 +137,7 @@ fn writes_the_answer(rt: HostRuntime) -> Result<(), Fail> {
     )?;
     let line = ["qstat", "alpha", "ann"];
     let ended = ends(alloc, &line, &[], &mut wire, (NqsStatus::Done, b"ok\n"))?;
-    let asked = is_sent(&wire, 1, &ASK) && wire.received().len() == 5;
+    let asked = is_asked(&wire, &ASK, 5);
     drop(wire);
     assert_eq!(rt; [ended, asked], [true; 2]);
     Ok(())
@@ -105,7 +151,7 @@ fn fails_with_its_send(rt: HostRuntime) -> Result<(), Fail> {
     let mut wire = MemWire::new(alloc, Items::new(alloc), Vec::new(alloc), sends);
     let line = ["tick", "alpha", "ann"];
     let ended = ends(alloc, &line, &[], &mut wire, (NqsStatus::WireFault, b""))?;
-    let silent = wire.sent().len() == 1 && wire.received().len() == 0;
+    let silent = wire.kept().len() == 1 && !wire.kept().iter().any(is_receive);
     drop(wire);
     assert_eq!(rt; [ended, silent], [true; 2]);
     Ok(())
@@ -128,13 +174,14 @@ fn waits_ten_times(rt: HostRuntime) -> Result<(), Fail> {
     let mut wire = wire(alloc, &[])?;
     let line = ["qstat", "alpha", "ann"];
     let ended = ends(alloc, &line, &[], &mut wire, (NqsStatus::NoAnswer, b""))?;
-    let asked = is_sent(&wire, 1, &ASK) && wire.received().len() == 10;
+    let asked = is_asked(&wire, &ASK, 10);
     drop(wire);
     assert_eq!(rt; [ended, asked], [true; 2]);
     Ok(())
 }
 
-// Whether a submission of this script ends so, and how many datagrams went out and came.
+// Whether a submission of this script ends so, and how many calls of the wire there were, and
+// receives among them.
 fn submits(
     alloc: Global,
     script: &[u8],
@@ -142,7 +189,8 @@ fn submits(
 ) -> Result<(bool, [usize; 2]), Memory> {
     let mut wire = wire(alloc, &[&ANSWER])?;
     let ended = ends(alloc, &["qsub", "alpha", "ann"], script, &mut wire, end)?;
-    let counts = [wire.sent().len(), wire.received().len()];
+    let receives = wire.kept().iter().filter(|kept| is_receive(kept)).count();
+    let counts = [wire.kept().len(), receives];
     drop(wire);
     Ok((ended, counts))
 }
@@ -154,7 +202,7 @@ fn refuses_a_long_script(rt: HostRuntime) -> Result<(), Fail> {
     let text = b"Bad word 0: script too long\n";
     let taken = submits(alloc, &script[..32_768], (NqsStatus::Done, b"ok\n"))?;
     let refused = submits(alloc, &script, (NqsStatus::Refused, text))?;
-    assert_eq!(rt; [taken, refused], [(true, [1, 1]), (true, [0, 0])]);
+    assert_eq!(rt; [taken, refused], [(true, [2, 1]), (true, [0, 0])]);
     Ok(())
 }
 
@@ -174,7 +222,7 @@ fn refuses_bad_words(rt: HostRuntime) -> Result<(), Fail> {
         is_bad(alloc, &["qstat", "alpha", "9"], &mut wire)?,
         is_bad(alloc, &["tick", "alpha", "ann", "now"], &mut wire)?,
     ];
-    let silent = wire.sent().len() == 0 && wire.received().len() == 0;
+    let silent = wire.kept().is_empty();
     drop(wire);
     assert_eq!(rt; (ended, silent), ([true; 5], true));
     Ok(())
@@ -202,10 +250,10 @@ fn tell(alloc: Global, runner: &mut MemRunner, wire: &mut MemWire) -> ShepherdEn
 #[test]
 fn tells_the_end(rt: HostRuntime) -> Result<(), Fail> {
     let alloc = rt.alloc();
-    let mut wire = wire(alloc, &[&OTHER_ACK, &ACK])?;
+    let mut wire = wire_of_turns(alloc, &[&OTHER_ACK, &ACK])?;
     let mut runner = runner(alloc)?;
     let ended = tell(alloc, &mut runner, &mut wire) == ShepherdEnd::Told;
-    let told = is_sent(&wire, 2, &ENDED) && runner.kept().len() == 1;
+    let told = is_told(&wire, &ENDED, 2) && runner.kept().len() == 1;
     drop(wire);
     drop(runner);
     assert_eq!(rt; [ended, told], [true; 2]);
@@ -218,7 +266,7 @@ fn tells_ten_times(rt: HostRuntime) -> Result<(), Fail> {
     let mut wire = wire(alloc, &[])?;
     let mut runner = runner(alloc)?;
     let ended = tell(alloc, &mut runner, &mut wire) == ShepherdEnd::NoAnswer;
-    let told = is_sent(&wire, 10, &ENDED);
+    let told = is_told(&wire, &ENDED, 10);
     drop(wire);
     drop(runner);
     assert_eq!(rt; [ended, told], [true; 2]);

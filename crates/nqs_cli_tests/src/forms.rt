@@ -5,6 +5,7 @@ use nqs_base::Memory;
 use nqs_cli::run;
 use nqs_clients::NqsStatus;
 use nqs_outside::{ListSource, MemSink};
+use nqs_types::Which;
 use std::alloc::Global;
 use std::rt::HostRuntime;
 use std::test::Fail;
@@ -75,7 +76,7 @@ fn serves(rt: HostRuntime) -> Result<(), Fail> {
     let formatted = ends(alloc, &mut machine, "format D alpha")?;
     let served = ends(alloc, &mut machine, "daemon D alpha 0")?;
     let unreceived = match &machine.wire {
-        Some(wire) => wire.received().is_empty(),
+        Some(wire) => wire.kept().is_empty(),
         None => false,
     };
     drop(machine);
@@ -112,6 +113,30 @@ fn refuses_disks_of_another_host(rt: HostRuntime) -> Result<(), Fail> {
     );
     assert!(rt; after == before);
     assert!(rt; booted != before);
+    Ok(())
+}
+
+// Where one of its disks isn't there, and another has bytes, a host is neither formatted nor served,
+// and no part is asked for. Its clients ask as ever.
+#[test]
+fn misses_a_disk(rt: HostRuntime) -> Result<(), Fail> {
+    let alloc = rt.alloc();
+    let mut machine = MemMachine::new(alloc, &[], 0)?;
+    let formatted = ends(alloc, &mut machine, "format D alpha")?;
+    machine.missing = Some(Which::Root);
+    let format = ends(alloc, &mut machine, "format D alpha")?;
+    let daemon = ends(alloc, &mut machine, "daemon D alpha 0")?;
+    let client = ends(alloc, &mut machine, "tick D alpha ann")?;
+    drop(machine);
+    assert_eq!(rt;
+        [formatted, format, daemon, client],
+        [
+            ended(0, 0, 1),
+            ended(3, 0, 1),
+            ended(3, 0, 1),
+            ended(7, 0, 2)
+        ]
+    );
     Ok(())
 }
 
@@ -161,11 +186,12 @@ fn wants(alloc: Global, line: &str, failing: u64) -> Result<End, Memory> {
 #[test]
 fn gives_back_what_it_has(rt: HostRuntime) -> Result<(), Fail> {
     let alloc = rt.alloc();
-    let mut faults = [ended(0, 0, 0); 6];
+    let mut faults = [ended(0, 0, 0); 7];
     for (number, fault) in faults.iter_mut().enumerate() {
         *fault = wants(alloc, "daemon D alpha 1", number as u64 + 1)?;
     }
     let expected = [
+        ended(11, 0, 0),
         ended(11, 0, 0),
         ended(11, 0, 0),
         ended(11, 0, 1),
@@ -176,6 +202,7 @@ fn gives_back_what_it_has(rt: HostRuntime) -> Result<(), Fail> {
     assert_eq!(rt; faults, expected);
     let others = [
         wants(alloc, "format D alpha", 2)?,
+        wants(alloc, "format D alpha", 3)?,
         wants(alloc, "tick D alpha ann", 2)?,
         wants(alloc, "shepherd D alpha 7.alpha 1", 2)?,
         wants(alloc, "shepherd D alpha 7.alpha 1", 3)?,
@@ -183,6 +210,7 @@ fn gives_back_what_it_has(rt: HostRuntime) -> Result<(), Fail> {
     assert_eq!(rt;
         others,
         [
+            ended(11, 0, 0),
             ended(11, 0, 0),
             ended(11, 0, 0),
             ended(11, 0, 0),

@@ -14,9 +14,10 @@ use nqs_cli::{Machine, MachineEnd, Notices};
 use nqs_disk::{Lack, MemDisk};
 use nqs_fakes::{Item, MemLauncher, MemOutlet, MemPrinter, MemRunner, MemWire};
 use nqs_outside::{Clock, Disk, RunEnd};
+use nqs_serve::ServeEnd;
 use nqs_state::HostState;
-use nqs_store::Disks;
-use nqs_types::{HostId, Output};
+use nqs_store::{Disks, LoadFault};
+use nqs_types::{HostId, Output, Which};
 use std::alloc::Global;
 
 /// How many parts were handed out and came back.
@@ -40,6 +41,8 @@ pub struct MemMachine {
     faults: u64,
     /// The wire that came back last.
     pub wire: Option<MemWire>,
+    /// The disk that isn't there.
+    pub missing: Option<Which>,
 }
 
 // Written out, so that a machine is let go by one call.
@@ -54,6 +57,7 @@ impl Drop for MemMachine {
             asked: _,
             faults: _,
             wire: _,
+            missing: _,
         } = self;
     }
 }
@@ -122,6 +126,7 @@ impl MemMachine {
             asked: 0,
             faults: 0,
             wire: None,
+            missing: None,
         })
     }
 
@@ -230,7 +235,13 @@ impl Clock for StoppedClock {
 
 // It has no operator.
 impl Notices for MemMachine {
+    fn not_loaded(&self, _fault: &LoadFault) {}
+
+    fn not_here(&self, _me: HostId, _names: &[Name], _state: &HostState) {}
+
     fn booted(&self, _state: &HostState, _said: &[Output]) {}
+
+    fn served(&self, _state: &HostState, _end: &ServeEnd) {}
 }
 
 impl Machine for MemMachine {
@@ -256,6 +267,11 @@ impl Machine for MemMachine {
     fn site(&mut self, dir: &str) -> Result<NameList, MachineEnd> {
         self.ask()?;
         names(self.alloc, dir)
+    }
+
+    fn missing_disk(&mut self, _dir: &str, _host: HostId) -> Result<Option<Which>, MachineEnd> {
+        self.ask()?;
+        Ok(self.missing)
     }
 
     fn disks(&mut self, _dir: &str, _host: HostId) -> Result<Disks<MemDisk>, MachineEnd> {

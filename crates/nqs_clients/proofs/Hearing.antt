@@ -1,50 +1,81 @@
 -- Waits for an answer, one receive after another.
-use Rattle.std.proofs.Common.{◌≡◌, ℕ, ◌+◌, ◌<◌, true, false, List, [], ◌∷◌, ◌++◌, length, Ok, Err, refl, sym, ap, ◌∙◌, is_some, arith}
+use Rattle.std.proofs.Common.{◌≡◌, inr, ℕ, ◌+◌, ◌<◌, true, false, List, [], ◌∷◌, ◌++◌, length, map, Ok, Err, refl, sym, ap, ◌∙◌, is_some, arith}
 use Rattle.std.specs.List.{list_any}
 use Rattle.std.specs.declared.option.Option.{Option}
 use Rattle.std.specs.declared.option.Option.TheVariants.{None, Some}
-use Rattle.std.proofs.lemmas.List.{append-nil}
+use Rattle.std.specs.declared.result.Result.{Result}
+use Rattle.std.proofs.lemmas.List.{append-nil, map-append}
 use Rattle.nqs_types.specs.declared.ids.HostId.{HostId}
-use Rattle.nqs_outside.specs.Asked.{Arrival}
+use Rattle.nqs_outside.specs.Asked.{Arrival, Traffic, inbound}
 use Rattle.nqs_outside.specs.Told.{Extends}
 use Rattle.nqs_outside.proofs.Told.{extends_none, extends_then, extends_same}
-use Rattle.nqs_clients.specs.Datagrams.{Receives}
-use Rattle.nqs_clients.specs.Exchange.{answer_in, answers, Hears}
+use Rattle.nqs_clients.specs.Datagrams.{Receives, StopsFor}
+use Rattle.nqs_clients.specs.Exchange.{answer_in, answers, asked, Hears, Exchanges}
+use Rattle.nqs_clients.specs.Sides.{Wired}
 use Rattle.nqs_clients.specs.declared.answer.Answer.{Answer}
 use Rattle.nqs_clients.specs.declared.datagram.WaitStop.{WaitStop}
 use Rattle.nqs_clients.specs.declared.datagram.WaitStop.TheVariants as stop
-use Rattle.nqs_clients.proofs.Waiting.{none_more, length_more}
+use Rattle.nqs_clients.specs.declared.errand.Errand.{Errand}
+use Rattle.nqs_clients.proofs.Waiting.{none_more, length_more, up_to}
 
 -- so many receives brought no answer
-abbrev pub IsHearing : HostId → Option (List Arrival) → Option (List Arrival) → ℕ → Type 0
-IsHearing host r r' n = (arrivals : List Arrival) × Extends r r' arrivals × (list_any (answers host) arrivals ≡ false) × (length arrivals ≡ n)
+abbrev pub IsHearing : HostId → Option (List Traffic) → Option (List Traffic) → ℕ → Type 0
+IsHearing host was now n =
+    (arrivals : List Arrival) × Extends was now (map inbound arrivals) × (list_any (answers host) arrivals ≡ false) × (length arrivals ≡ n)
 
-pub hearing_first : (host : HostId) (r : Option (List Arrival)) → IsHearing host r r 0
-hearing_first host r = ([], extends_none r, refl, refl)
+-- one arrival more
+one_more : (was mid now : Option (List Traffic)) (arrivals : List Arrival) (a : Arrival) → Extends was mid (map inbound arrivals) → Extends mid now (inbound a ∷ [])
+    → Extends was now (map inbound (arrivals ++ a ∷ []))
+one_more was mid now arrivals a first then =
+    extends_same was now _ _ (sym (map-append inbound arrivals (a ∷ []))) (extends_then was mid now (map inbound arrivals) (inbound a ∷ []) first then)
 
-pub hearing_more : (host : HostId) (r r' r'' : Option (List Arrival)) (n : ℕ) (heard : Option Answer)
-    → IsHearing host r r' n → Receives (answer_in host) r' r'' (Ok heard) → is_some heard ≡ false → IsHearing host r r'' (n + 1)
-hearing_more host r r' r'' n heard so_far (a, came, is) not_it = (
+pub hearing_first : (host : HostId) (was : Option (List Traffic)) → IsHearing host was was 0
+hearing_first host was = ([], extends_none was, refl, refl)
+
+pub hearing_more : (host : HostId) (was mid now : Option (List Traffic)) (n : ℕ) (heard : Option Answer)
+    → IsHearing host was mid n → Receives [] (answer_in host) mid now (Ok heard) → is_some heard ≡ false → IsHearing host was now (n + 1)
+hearing_more host was mid now n heard so_far (a, came, is) not_it = (
   so_far.0 ++ a ∷ [],
-  extends_then r r' r'' so_far.0 (a ∷ []) so_far.1 came,
+  one_more was mid now so_far.0 a so_far.1 came,
   none_more (answers host) so_far.0 a so_far.2 (ap is_some (sym is) ∙ not_it),
   length_more so_far.0 a n so_far.3,
 )
 
-pub hears_answer : (host : HostId) (r r' r'' : Option (List Arrival)) (n : ℕ) (heard : Option Answer)
-    → n < 10 → IsHearing host r r' n → Receives (answer_in host) r' r'' (Ok heard) → is_some heard ≡ true → Hears host r r'' (Ok heard)
-hears_answer host r r' r'' n (Some answer) few so_far (a, came, is) is_it =
-    let same = length_more so_far.0 a n so_far.3 in
-    (so_far.0 ++ a ∷ [], extends_then r r' r'' so_far.0 (a ∷ []) so_far.1 came, (so_far.0, a, refl, omega (arith, same, few), so_far.2, sym is))
-hears_answer host r r' r'' n None few so_far came is_it = absurd (let impossible : ⊥ = cc in impossible)
+pub hears_answer : (host : HostId) (was mid now : Option (List Traffic)) (n : ℕ) (heard : Option Answer)
+    → n < 10 → IsHearing host was mid n → Receives [] (answer_in host) mid now (Ok heard) → is_some heard ≡ true → Hears [] host was now (Ok heard)
+hears_answer host was mid now n (Some answer) few so_far (a, came, is) is_it = (
+  so_far.0 ++ a ∷ [],
+  one_more was mid now so_far.0 a so_far.1 came,
+  (a, up_to (answers host) so_far.0 a n few so_far.2 so_far.3, sym is),
+)
+hears_answer host was mid now n None few so_far came is_it = absurd (let impossible : ⊥ = cc in impossible)
 
-pub hears_stopped : (host : HostId) (r r' r'' : Option (List Arrival)) (n : ℕ) (why : WaitStop)
-    → n < 10 → IsHearing host r r' n → Receives (answer_in host) r' r'' (Err why) → Hears host r r'' (Err why)
-hears_stopped host r r' r'' n stop.Fault few so_far came =
-    (so_far.0, extends_same r r'' _ _ (append-nil so_far.0) (extends_then r r' r'' so_far.0 [] so_far.1 came), (omega (arith, so_far.3, few), so_far.2))
-hears_stopped host r r' r'' n (stop.Memory memory) few so_far (a, came) =
-    let same = length_more so_far.0 a n so_far.3 in
-    (so_far.0 ++ a ∷ [], extends_then r r' r'' so_far.0 (a ∷ []) so_far.1 came, omega (arith, same, few))
+pub hears_stopped : (host : HostId) (was mid now : Option (List Traffic)) (n : ℕ) (why : WaitStop)
+    → n < 10 → IsHearing host was mid n → Receives [] (answer_in host) mid now (Err why) → Hears [] host was now (Err why)
+hears_stopped host was mid now n stop.Fault few so_far came = (
+  so_far.0,
+  extends_same was now _ _ (append-nil (map inbound so_far.0)) (extends_then was mid now (map inbound so_far.0) [] so_far.1 came),
+  (omega (arith, so_far.3, few), so_far.2),
+)
+hears_stopped host was mid now n (stop.Unread unread) few so_far (a, came) =
+    (so_far.0 ++ a ∷ [], one_more was mid now so_far.0 a so_far.1 came, (a, up_to (answers host) so_far.0 a n few so_far.2 so_far.3))
+hears_stopped host was mid now n (stop.Memory memory) few so_far never = absurd never
 
-pub hears_none : (host : HostId) (r r' : Option (List Arrival)) (n : ℕ) → n ≡ 10 → IsHearing host r r' n → Hears host r r' (Ok None)
-hears_none host r r' n all so_far = (so_far.0, so_far.1, (so_far.3 ∙ all, so_far.2))
+pub hears_none : (host : HostId) (was now : Option (List Traffic)) (n : ℕ) → n ≡ 10 → IsHearing host was now n → Hears [] host was now (Ok None)
+hears_none host was now n all so_far = (so_far.0, so_far.1, (so_far.3 ∙ all, so_far.2))
+
+-- a wait behind the ask
+behind : (ask : Traffic) (host : HostId) (was mid now : Option (List Traffic)) (result : Result (Option Answer) WaitStop)
+    → Extends was mid (ask ∷ []) → Hears [] host mid now result → Hears (ask ∷ []) host was now result
+behind ask host was mid now result sent heard = (heard.0, extends_then was mid now (ask ∷ []) (map inbound heard.0) sent heard.1, heard.2)
+
+-- the ask went out, and the wait ended so
+pub exchanged : (port : ℕ) (e : Errand) (script : List ℕ) (wire : Wired) (mid : Option (List Traffic)) (result : Result (Option Answer) WaitStop)
+    → Extends wire.traffic mid (asked port e script ∷ []) → Hears [] e.host mid wire.traffic_now result
+    → StopsFor wire.receive_faults wire.receive_faults_now result → wire.send_faults_now ≡ wire.send_faults → Exchanges port e script wire result
+exchanged port e script wire mid (Ok answer) sent heard cause went = (behind _ e.host wire.traffic mid _ (Ok answer) sent heard, (cause, went))
+exchanged port e script wire mid (Err stop.Fault) sent heard cause went =
+    inr (behind _ e.host wire.traffic mid _ (Err stop.Fault) sent heard, cause.1, went)
+exchanged port e script wire mid (Err (stop.Unread unread)) sent heard cause went =
+    (behind _ e.host wire.traffic mid _ (Err (stop.Unread unread)) sent heard, (cause, went))
+exchanged port e script wire mid (Err (stop.Memory memory)) sent heard cause went = absurd heard.2

@@ -4,7 +4,8 @@ use Rattle.std.specs.Global.{Vec}
 use Rattle.std.specs.declared.option.Option.TheVariants.{None, Some}
 use Rattle.std.specs.declared.result.Result.{Result}
 use Rattle.nqs_outside.specs.declared.whole.ReadStop.{ReadStop}
-use Rattle.nqs_outside.specs.declared.whole.ReadStop.TheVariants.{Fault, TooLong, Memory}
+use Rattle.nqs_outside.specs.declared.whole.ReadStop.TheVariants as read
+use Rattle.nqs_base.specs.declared.memory.Memory.{Memory}
 use Rattle.nqs_outside.specs.Causes.{Rose}
 use Rattle.nqs_outside.specs.Streams.{Fed, IsUnread, ReadsWhole, ReadsTooMuch, Sunk}
 use Rattle.nqs_types.specs.declared.event.Reply.TheVariants.{UnreadWords}
@@ -17,6 +18,7 @@ use Rattle.nqs_clients.specs.Errand.{errand_of}
 use Rattle.nqs_clients.specs.Exchange.{Exchanges}
 use Rattle.nqs_clients.specs.Sides.{Wired, IsSilent, IsUnwritten, Writes, FailsWriting}
 use Rattle.nqs_clients.specs.declared.answer.Answer.{Answer}
+use Rattle.nqs_clients.specs.declared.datagram.WaitStop.{WaitStop}
 use Rattle.nqs_clients.specs.declared.datagram.WaitStop.TheVariants as stop
 use Rattle.nqs_clients.specs.declared.errand.Errand.{Errand}
 use Rattle.nqs_clients.specs.declared.status.NqsStatus.{NqsStatus}
@@ -38,9 +40,9 @@ HasScript _ source script = IsUnread source × (script ≡ [])
 -- what comes of a source by reading it
 abbrev pub TakesScript : Tool → Fed → Result (Vec ℕ) ReadStop → Type 0
 TakesScript tool source (Ok script) = HasScript tool source script.items
-TakesScript tool source (Err Fault) = (tool ≡ Qsub) × Rose source.faults source.faults_now
-TakesScript tool source (Err TooLong) = (tool ≡ Qsub) × ReadsTooMuch 32768 source
-TakesScript tool source (Err (Memory memory)) = Unit {0}
+TakesScript tool source (Err read.Fault) = (tool ≡ Qsub) × Rose source.faults source.faults_now
+TakesScript tool source (Err read.TooLong) = (tool ≡ Qsub) × ReadsTooMuch 32768 source
+TakesScript tool source (Err (read.Memory memory)) = Unit {0}
 
 -- An answer was written whole, and it ends as the answer says; or a front of it was.
 abbrev pub EndsWriting : Bool → List ℕ → Sunk → NqsStatus → Type 0
@@ -54,6 +56,14 @@ abbrev pub EndsAnswered : ℕ → Errand → List ℕ → Wired → Sunk → Nqs
 EndsAnswered port e script wire sink result = (answer : Answer) × Exchanges port e script wire (Ok (Some answer))
     × EndsWriting answer.ok answer.text sink result
 
+-- there was no memory to read what came
+abbrev pub unread : Memory → WaitStop
+unread memory = stop.Unread (record { memory = memory })
+
+-- memory was wanting for the ask, or to read what came behind it
+abbrev pub Lacks : ℕ → Errand → List ℕ → Wired → Memory → Type 0
+Lacks port e script wire memory = Exchanges port e script wire (Err (stop.Memory memory)) ⊎ Exchanges port e script wire (Err (unread memory))
+
 -- how the client ends that has its script
 abbrev pub EndsAsking : ℕ → Errand → List ℕ → Wired → Sunk → NqsStatus → Type 0
 EndsAsking port e script wire sink status.Done = EndsAnswered port e script wire sink status.Done
@@ -61,7 +71,7 @@ EndsAsking port e script wire sink status.Refused = EndsAnswered port e script w
 EndsAsking port e script wire sink status.WriteFault = EndsAnswered port e script wire sink status.WriteFault
 EndsAsking port e script wire sink status.NoAnswer = Exchanges port e script wire (Ok None) × IsUnwritten sink
 EndsAsking port e script wire sink status.WireFault = Exchanges port e script wire (Err stop.Fault) × IsUnwritten sink
-EndsAsking port e script wire sink (status.Memory memory) = Exchanges port e script wire (Err (stop.Memory memory)) × IsUnwritten sink
+EndsAsking port e script wire sink (status.Memory memory) = Lacks port e script wire memory × IsUnwritten sink
 EndsAsking port e script wire sink _ = ⊥
 
 -- it has its script, and so it ends

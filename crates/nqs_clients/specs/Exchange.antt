@@ -1,5 +1,5 @@
 -- What the client sends to the host, and what comes of it.
-use Rattle.std.specs.Prelude.{◌≡◌, ℕ, ◌≤◌, ◌⊎◌, Bool, false, ◌==◌, List, [], ◌∷◌, ◌++◌, length, if◌then◌else◌, Ok, Err}
+use Rattle.std.specs.Prelude.{◌≡◌, ℕ, ◌≤◌, ◌⊎◌, Bool, false, ◌==◌, List, [], ◌∷◌, ◌++◌, length, map, if◌then◌else◌, Ok, Err}
 use Rattle.std.specs.List.{list_any}
 use Rattle.std.specs.Option.{is_some}
 use Rattle.std.specs.declared.option.Option.{Option}
@@ -9,14 +9,14 @@ use Rattle.nqs_types.specs.declared.ids.HostId.{HostId}
 use Rattle.nqs_types.specs.declared.message.Body.{Body}
 use Rattle.nqs_types.specs.declared.message.Body.TheVariants as body
 use Rattle.nqs_types.specs.declared.message.Message.{Message}
-use Rattle.nqs_outside.specs.Asked.{Arrival}
+use Rattle.nqs_outside.specs.Asked.{Arrival, Traffic, inbound, outbound}
 use Rattle.nqs_outside.specs.Causes.{Rose}
 use Rattle.nqs_outside.specs.Told.{Extends}
-use Rattle.nqs_clients.specs.Datagrams.{message_in, datagram}
-use Rattle.nqs_clients.specs.Sides.{Wired, IsSilent}
+use Rattle.nqs_clients.specs.Datagrams.{message_in, datagram, UpTo}
+use Rattle.nqs_clients.specs.Sides.{Wired, IsSilent, NoneFailed}
 use Rattle.nqs_clients.specs.declared.answer.Answer.{Answer}
 use Rattle.nqs_clients.specs.declared.datagram.WaitStop.{WaitStop}
-use Rattle.nqs_clients.specs.declared.datagram.WaitStop.TheVariants.{Fault, Memory}
+use Rattle.nqs_clients.specs.declared.datagram.WaitStop.TheVariants.{Fault, Unread, Memory}
 use Rattle.nqs_clients.specs.declared.errand.Errand.{Errand}
 
 -- the number by which a client knows the answer to what it asked
@@ -45,29 +45,41 @@ answer_in host arrival = answer_of host (message_in arrival)
 abbrev pub answers : HostId → Arrival → Bool
 answers host arrival = is_some (answer_in host arrival)
 
--- the ask was sent
-abbrev pub Asks : ℕ → Errand → List ℕ → Wired → Type 0
-Asks port e script wire = Extends wire.sent wire.sent_now (datagram e.host (ask_of port e script) ∷ [])
+-- the datagram that asks
+abbrev pub asked : ℕ → Errand → List ℕ → Traffic
+asked port e script = outbound (datagram e.host (ask_of port e script))
 
--- At most ten receives were made, up to the first that brought the answer.
+-- At most ten receives were made, up to the first that brought the answer. One that was read is
+-- given: memory may be wanting to read the last that came, and for nothing else.
 abbrev pub Awaits : HostId → List Arrival → Result (Option Answer) WaitStop → Type 0
-Awaits host arrivals (Ok (Some answer)) = (before : List Arrival) × (last : Arrival) × (arrivals ≡ before ++ last ∷ []) × (length arrivals ≤ 10)
-    × (list_any (answers host) before ≡ false) × (answer_in host last ≡ Some answer)
+Awaits host arrivals (Ok (Some answer)) = (last : Arrival) × UpTo (answers host) arrivals last × (answer_in host last ≡ Some answer)
 Awaits host arrivals (Ok None) = (length arrivals ≡ 10) × (list_any (answers host) arrivals ≡ false)
 Awaits host arrivals (Err Fault) = (length arrivals ≤ 9) × (list_any (answers host) arrivals ≡ false)
-Awaits host arrivals (Err (Memory memory)) = length arrivals ≤ 10
+Awaits host arrivals (Err (Unread unread)) = (last : Arrival) × UpTo (answers host) arrivals last
+Awaits host arrivals (Err (Memory memory)) = ⊥
 
--- what the wire received from then to now is one such wait, which ended so
-abbrev pub Hears : HostId → Option (List Arrival) → Option (List Arrival) → Result (Option Answer) WaitStop → Type 0
-Hears host was now result = (arrivals : List Arrival) × Extends was now arrivals × Awaits host arrivals result
+-- behind these sends, what passed the wire from then to now is one such wait, which ended so
+abbrev pub Hears : List Traffic → HostId → Option (List Traffic) → Option (List Traffic) → Result (Option Answer) WaitStop → Type 0
+Hears sends host was now result = (arrivals : List Arrival) × Extends was now (sends ++ map inbound arrivals) × Awaits host arrivals result
 
--- the send failed, and nothing was received; or a receive failed
-abbrev pub WireFailed : Wired → Type 0
-WireFailed wire = (Rose wire.send_faults wire.send_faults_now × Extends wire.received wire.received_now []) ⊎ Rose wire.receive_faults wire.receive_faults_now
+-- the ask was sent, then the wait was made, and it ended so
+abbrev pub Asks : ℕ → Errand → List ℕ → Wired → Result (Option Answer) WaitStop → Type 0
+Asks port e script wire result = Hears (asked port e script ∷ []) e.host wire.traffic wire.traffic_now result
 
--- the ask was sent, and this is what came of it; or there was no memory for the ask
+-- the send failed, and nothing was received
+abbrev pub SendFailed : ℕ → Errand → List ℕ → Wired → Type 0
+SendFailed port e script wire = Extends wire.traffic wire.traffic_now (asked port e script ∷ []) × Rose wire.send_faults wire.send_faults_now
+    × (wire.receive_faults_now ≡ wire.receive_faults)
+
+-- the ask went out, and a receive failed
+abbrev pub ReceiveFailed : ℕ → Errand → List ℕ → Wired → Type 0
+ReceiveFailed port e script wire = Asks port e script wire (Err Fault) × Rose wire.receive_faults wire.receive_faults_now
+    × (wire.send_faults_now ≡ wire.send_faults)
+
+-- The ask went out, and this is what came of it; or a call of the wire failed, or there was no
+-- memory for the ask.
 abbrev pub Exchanges : ℕ → Errand → List ℕ → Wired → Result (Option Answer) WaitStop → Type 0
-Exchanges port e script wire (Ok answer) = Asks port e script wire × Hears e.host wire.received wire.received_now (Ok answer)
-Exchanges port e script wire (Err Fault) = Asks port e script wire × Hears e.host wire.received wire.received_now (Err Fault) × WireFailed wire
-Exchanges port e script wire (Err (Memory memory)) = IsSilent wire ⊎ (Asks port e script wire
-    × Hears e.host wire.received wire.received_now (Err (Memory memory)))
+Exchanges port e script wire (Ok answer) = Asks port e script wire (Ok answer) × NoneFailed wire
+Exchanges port e script wire (Err Fault) = SendFailed port e script wire ⊎ ReceiveFailed port e script wire
+Exchanges port e script wire (Err (Unread unread)) = Asks port e script wire (Err (Unread unread)) × NoneFailed wire
+Exchanges port e script wire (Err (Memory memory)) = IsSilent wire

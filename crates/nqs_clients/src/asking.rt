@@ -55,13 +55,14 @@ fn ask<W: Wire, K: Sink>(
 ) -> NqsStatus
     requires may { MayAsk errand }
     requires short { length script.items ≤ 32768 }
-    ensures { EndsAsking port errand script.items (wired W.received W.sent W.receive_faults W.send_faults wire.old wire.new)
+    ensures { EndsAsking port errand script.items (wired W.traffic W.receive_faults W.send_faults wire.old wire.new)
         (sunk K.taken K.faults K.stalls out.old out.new) result }
 {
     match exchange(alloc, port, errand, script, wire) {
         Ok(Some(answer)) => write_answer(answer.ok, answer.text.as_slice(), out),
         Ok(None) => NqsStatus::NoAnswer,
         Err(WaitStop::Fault) => NqsStatus::WireFault,
+        Err(WaitStop::Unread(unread)) => NqsStatus::Memory(unread.into_memory()),
         Err(WaitStop::Memory(memory)) => NqsStatus::Memory(memory),
     }
 }
@@ -76,7 +77,7 @@ fn run_errand<W: Wire, S: Source, K: Sink>(
     out: &mut K,
 ) -> NqsStatus
     requires { MayAsk errand }
-    ensures { EndsFor port errand (fed S.left S.faults input.old input.new) (wired W.received W.sent W.receive_faults W.send_faults wire.old wire.new)
+    ensures { EndsFor port errand (fed S.left S.faults input.old input.new) (wired W.traffic W.receive_faults W.send_faults wire.old wire.new)
         (sunk K.taken K.faults K.stalls out.old out.new) result }
 {
     match take_script(alloc, errand.tool, input) {
@@ -101,7 +102,7 @@ pub fn client<W: Wire, S: Source, K: Sink>(
 ) -> NqsStatus
     requires { length site.now ≤ 16 }
     ensures { Ends site.now (map (λ s. string_bytes s) words.now) port (fed S.left S.faults input.old input.new)
-        (wired W.received W.sent W.receive_faults W.send_faults wire.old wire.new) (sunk K.taken K.faults K.stalls out.old out.new) result }
+        (wired W.traffic W.receive_faults W.send_faults wire.old wire.new) (sunk K.taken K.faults K.stalls out.old out.new) result }
 {
     match read_words(alloc, site, words) {
         Ok(errand) => run_errand(alloc, port, errand, wire, input, out),

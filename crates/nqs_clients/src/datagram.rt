@@ -1,8 +1,7 @@
 //! Messages that come and go as datagrams.
 
-ghost use Rattle.std.specs.Prelude.{◌≡◌, ◌≤◌, [], length, IfOk};
+ghost use Rattle.std.specs.Prelude.{◌≡◌, [], length, IfOk};
 ghost use Rattle.nqs_outside.specs.Asked.{arrival, IsWithin};
-ghost use Rattle.nqs_outside.specs.Told.{Extends};
 ghost use Rattle.nqs_packets.specs.Reading.{message_of};
 ghost use Rattle.nqs_packets.specs.Spelling.{spelling};
 ghost use Rattle.nqs_packets.specs.Values.{MaySend};
@@ -17,26 +16,46 @@ use std::alloc::Global;
 /// The greatest length of a datagram, and one byte more, so that a longer one is none.
 const ROOM: usize = 49_153;
 
+/// There was no memory to read a datagram. Only the reader makes one, so that what was read is
+/// never given up for want of memory.
+#[derive(Drop)]
+pub struct Unread {
+    memory: Memory,
+}
+
+impl Unread {
+    /// The memory that was wanting.
+    pub(crate) fn into_memory(self) -> Memory
+        ensures { result ≡ self.memory }
+    {
+        self.memory
+    }
+}
+
 /// Why a wait ended before its time.
-#[derive(Debug, PartialEq, Eq, Drop)]
+#[derive(Drop)]
 pub enum WaitStop {
+    /// The wire failed.
     Fault,
+    /// There was no memory to read what came last.
+    Unread(Unread),
+    /// There was no memory for what was to be sent, and nothing was sent or received.
     Memory(Memory),
 }
 
 // The bytes as a message. Bytes that are none are passed over.
-fn read_datagram(alloc: Global, bytes: &[u8]) -> Result<Option<Message>, Memory>
+fn read_datagram(alloc: Global, bytes: &[u8]) -> Result<Option<Message>, Unread>
     ensures { IfOk result (λ message. message ≡ read_of (message_of bytes.now)) }
 {
     match read_message(alloc, bytes) {
         Ok(message) => Ok(Some(message)),
-        Err(PacketFault::Memory(memory)) => Err(memory),
+        Err(PacketFault::Memory(memory)) => Err(Unread { memory }),
         Err(_) => Ok(None),
     }
 }
 
 // The message that came into the buffer.
-fn message_in(alloc: Global, received: Received, buf: &[u8]) -> Result<Option<Message>, Memory>
+fn message_in(alloc: Global, received: Received, buf: &[u8]) -> Result<Option<Message>, Unread>
     requires { IsWithin received (length buf.now) }
     ensures { IfOk result (λ message. message ≡ message_in (arrival received buf.now)) }
 {
@@ -51,16 +70,15 @@ pub(crate) fn receive_message<W: Wire>(
     alloc: Global,
     wire: &mut W,
 ) -> Result<Option<Message>, WaitStop>
-    ensures received { Receives message_in (W.received wire.old) (W.received wire.new) result }
-    ensures sent { Extends (W.sent wire.old) (W.sent wire.new) [] }
+    ensures traffic { Receives [] message_in (W.traffic wire.old) (W.traffic wire.new) result }
     ensures cause { StopsFor (W.receive_faults wire.old) (W.receive_faults wire.new) result }
-    ensures send_faults { W.send_faults wire.old ≤ W.send_faults wire.new }
+    ensures send_faults { W.send_faults wire.new ≡ W.send_faults wire.old }
 {
     let mut buf = [0u8; ROOM];
     match wire.receive(&mut buf) {
         Ok(received) => match message_in(alloc, received, &buf) {
             Ok(message) => Ok(message),
-            Err(memory) => Err(WaitStop::Memory(memory)),
+            Err(unread) => Err(WaitStop::Unread(unread)),
         },
         Err(_) => Err(WaitStop::Fault),
     }

@@ -1,7 +1,6 @@
 //! The client asks a host, and waits for the answer.
 
 ghost use Rattle.std.specs.Prelude.{◌≡◌, ◌≤◌, length, [], IfOk};
-ghost use Rattle.nqs_outside.specs.Told.{Extends};
 ghost use Rattle.nqs_packets.specs.Spelling.{spelling};
 ghost use Rattle.nqs_clients.specs.Datagrams.{at_home, Receives, StopsFor};
 ghost use Rattle.nqs_clients.specs.Errand.{MayAsk};
@@ -69,10 +68,9 @@ fn answer_of(host: HostId, message: Option<Message>) -> Option<Answer>
 
 // Makes one receive, which may bring the answer.
 fn hear<W: Wire>(alloc: Global, host: HostId, wire: &mut W) -> Result<Option<Answer>, WaitStop>
-    ensures received { Receives (answer_in host) (W.received wire.old) (W.received wire.new) result }
-    ensures sent { Extends (W.sent wire.old) (W.sent wire.new) [] }
+    ensures traffic { Receives [] (answer_in host) (W.traffic wire.old) (W.traffic wire.new) result }
     ensures cause { StopsFor (W.receive_faults wire.old) (W.receive_faults wire.new) result }
-    ensures send_faults { W.send_faults wire.old ≤ W.send_faults wire.new }
+    ensures send_faults { W.send_faults wire.new ≡ W.send_faults wire.old }
 {
     match receive_message(alloc, wire) {
         Ok(message) => Ok(answer_of(host, message)),
@@ -86,9 +84,9 @@ fn await_answer<W: Wire>(
     host: HostId,
     wire: &mut W,
 ) -> Result<Option<Answer>, WaitStop>
-    ensures heard { Hears host (W.received wire.old) (W.received wire.new) result }
-    ensures sent { Extends (W.sent wire.old) (W.sent wire.new) [] }
+    ensures heard { Hears [] host (W.traffic wire.old) (W.traffic wire.new) result }
     ensures cause { StopsFor (W.receive_faults wire.old) (W.receive_faults wire.new) result }
+    ensures send_faults { W.send_faults wire.new ≡ W.send_faults wire.old }
 {
     for _turn in 0..10u32 {
         match hear(alloc, host, wire) {
@@ -113,15 +111,15 @@ pub(crate) fn exchange<W: Wire>(
 ) -> Result<Option<Answer>, WaitStop>
     requires may { MayAsk errand }
     requires short { length script.items ≤ 32768 }
-    ensures { Exchanges port errand script.items (wired W.received W.sent W.receive_faults W.send_faults wire.old wire.new) result }
+    ensures { Exchanges port errand script.items (wired W.traffic W.receive_faults W.send_faults wire.old wire.new) result }
 {
     let host = errand.host;
     let asked = match spelled_ask(alloc, port, errand, script) {
         Ok(asked) => asked,
         Err(memory) => return Err(WaitStop::Memory(memory)),
     };
-    if wire.send(Address::Host(host), &asked).is_err() {
-        return Err(WaitStop::Fault);
+    match wire.send(Address::Host(host), &asked) {
+        Ok(()) => await_answer(alloc, host, wire),
+        Err(_) => Err(WaitStop::Fault),
     }
-    await_answer(alloc, host, wire)
 }

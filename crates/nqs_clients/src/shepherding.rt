@@ -2,17 +2,14 @@
 //! knows.
 
 ghost use Rattle.std.specs.Prelude.{◌≡◌, ◌≤◌, ◌∷◌, [], take, length, true, IfOk};
-ghost use Rattle.nqs_outside.specs.Asked.{packet, end_of};
-ghost use Rattle.nqs_outside.specs.Causes.{Rose};
-ghost use Rattle.nqs_outside.specs.Told.{Extends};
+ghost use Rattle.nqs_outside.specs.Asked.{end_of, outbound, packet};
 ghost use Rattle.nqs_outside.specs.declared.wire.Address.TheVariants.{Host};
 ghost use Rattle.nqs_rules.specs.Sane.{is_of_site, is_sane_id};
 ghost use Rattle.nqs_records.specs.Values.{IsHost, IsId};
 ghost use Rattle.nqs_packets.specs.Spelling.{spelling};
 ghost use Rattle.nqs_packets.specs.Values.{IsShort, IsBody};
 ghost use Rattle.nqs_clients.specs.Datagrams.{at_home, Receives, StopsFor};
-ghost use Rattle.nqs_clients.specs.Shepherd.{ended, is_ack, acknowledges, stopped, Waits, Shepherds};
-ghost use Rattle.nqs_clients.specs.declared.shepherding.ShepherdEnd.TheVariants.{WireFault};
+ghost use Rattle.nqs_clients.specs.Shepherd.{ended, is_ack, acknowledges, stopped, EndsWith, Waits, Shepherds};
 
 use crate::datagram::{WaitStop, receive_message, spelled};
 use nqs_base::{Bytes, Memory, Name};
@@ -124,6 +121,7 @@ fn end_of(stop: WaitStop) -> ShepherdEnd
 {
     match stop {
         WaitStop::Fault => ShepherdEnd::WireFault,
+        WaitStop::Unread(unread) => ShepherdEnd::Memory(unread.into_memory()),
         WaitStop::Memory(memory) => ShepherdEnd::Memory(memory),
     }
 }
@@ -137,8 +135,7 @@ fn turn<W: Wire>(
     told: &[u8],
     wire: &mut W,
 ) -> Result<bool, WaitStop>
-    ensures received { Receives (acknowledges host id start) (W.received wire.old) (W.received wire.new) result }
-    ensures sent { Extends (W.sent wire.old) (W.sent wire.new) (packet (Host host) told.now ∷ []) }
+    ensures traffic { Receives (outbound (packet (Host host) told.now) ∷ []) (acknowledges host id start) (W.traffic wire.old) (W.traffic wire.new) result }
     ensures cause { StopsFor (W.receive_faults wire.old) (W.receive_faults wire.new) result }
 {
     let _ = wire.send(Address::Host(host), told);
@@ -156,10 +153,8 @@ fn tell<W: Wire>(
     told: &[u8],
     wire: &mut W,
 ) -> ShepherdEnd
-    ensures waits { Waits (acknowledges host id start) (packet (Host host) told.now) (W.received wire.old) (W.received wire.new) (W.sent wire.old)
-        (W.sent wire.new) result }
-    ensures fault { result ≡ WireFault → Rose (W.receive_faults wire.old) (W.receive_faults wire.new) }
-    ensures later { W.receive_faults wire.old ≤ W.receive_faults wire.new }
+    ensures waits { Waits (acknowledges host id start) (packet (Host host) told.now) (W.traffic wire.old) (W.traffic wire.new) result }
+    ensures cause { EndsWith (W.receive_faults wire.old) (W.receive_faults wire.new) result }
 {
     for _turn in 0..10u32 {
         match turn(alloc, host, id, start, told, wire) {
@@ -190,10 +185,8 @@ pub fn shepherd<R: Runner, W: Wire>(
     requires host { is_of_site (length site.now) host ≡ true }
     requires id { is_sane_id id ≡ true }
     requires origin { is_of_site (length site.now) id.host ≡ true }
-    ensures shepherds { Shepherds host port id start (R.runs runner.old) (R.runs runner.new) (W.received wire.old) (W.received wire.new) (W.sent wire.old)
-        (W.sent wire.new) result }
-    ensures fault { result ≡ WireFault → Rose (W.receive_faults wire.old) (W.receive_faults wire.new) }
-    ensures later { W.receive_faults wire.old ≤ W.receive_faults wire.new }
+    ensures shepherds { Shepherds host port id start (R.runs runner.old) (R.runs runner.new) (W.traffic wire.old) (W.traffic wire.new) result }
+    ensures cause { EndsWith (W.receive_faults wire.old) (W.receive_faults wire.new) result }
 {
     let answer = runner.run(id, start);
     match spelled_end(alloc, host, port, id, start, answer) {

@@ -42,6 +42,13 @@ impl Failures {
         Ok(())
     }
 
+    /// How many calls there were.
+    pub fn calls(&self) -> u64
+        ensures { result ≡ self.now.calls }
+    {
+        self.calls
+    }
+
     /// A failure more, of the call that was counted last.
     pub fn fail(&mut self) -> Failed
         ensures faults { self.new.faults ≡ next self.old.faults }

@@ -18,4 +18,4 @@ pub use launcher::{LauncherCall, MemLauncher};
 pub use outlet::{FileWritten, MemOutlet};
 pub use printer::{MemPrinter, Printed};
 pub use runner::{JobRun, MemRunner};
-pub use wire::{Item, MemWire, Sent};
+pub use wire::{Item, Kept, MemWire};

@@ -1,11 +1,11 @@
-//! A wire in memory: a script of what comes, and lists of what came and of what was to be sent.
+//! A wire in memory: a script of what comes, and a list of what passed, call by call.
 
-ghost use Rattle.std.specs.Prelude.{◌≡◌, ◌≤◌, ◌∷◌, [], ℕ, Some, None, false, length, map, IfOk, OnOk, OnErr};
+ghost use Rattle.std.specs.Prelude.{◌≡◌, ◌≤◌, ◌<◌, ◌∷◌, [], ℕ, Some, None, false, length, map, IfOk, OnOk, OnErr};
 ghost use Rattle.nqs_outside.specs.Causes.{HasCause};
 ghost use Rattle.nqs_outside.specs.Told.{Extends};
-ghost use Rattle.nqs_outside.specs.Asked.{arrival, IsWithin, packet};
+ghost use Rattle.nqs_outside.specs.Asked.{arrival, inbound, IsWithin, outbound, packet};
 ghost use Rattle.nqs_fakes.specs.Failures.{GoesAsListed};
-ghost use Rattle.nqs_fakes.specs.Wire.{arrival_of, packet_of, cut_to, first_of, rest_of};
+ghost use Rattle.nqs_fakes.specs.Wire.{cut_to, first_of, is_early, rest_of, traffic_in};
 
 use crate::failures::Failures;
 use crate::first::take_first;
@@ -18,22 +18,27 @@ use std::collections::VecDeque;
 #[derive(Drop)]
 pub enum Item {
     Datagram(Bytes),
+    /// A datagram that comes once there were so many sends. Until then nothing does.
+    Reply(u64, Bytes),
     Quiet,
 }
 
-/// What was to be sent.
+/// What passed the wire in a call.
 #[derive(Drop)]
-pub struct Sent {
-    pub to: Address,
-    pub bytes: Bytes,
+pub enum Kept {
+    /// A receive brought these bytes.
+    Inbound(Bytes),
+    /// A receive brought nothing.
+    Nothing,
+    /// These bytes were to be sent there, whether or not the send failed.
+    Outbound(Address, Bytes),
 }
 
 /// A wire in memory. The items of its script come in order, and then nothing.
 pub struct MemWire {
     alloc: Global,
     script: VecDeque<Item>,
-    received: Items<Item>,
-    sent: Items<Sent>,
+    kept: Items<Kept>,
     receives: Failures,
     sends: Failures,
     starved: bool,
@@ -46,8 +51,7 @@ impl Drop for MemWire {
         let MemWire {
             alloc: _,
             script: _,
-            received: _,
-            sent: _,
+            kept: _,
             receives: _,
             sends: _,
             starved: _,
@@ -56,38 +60,62 @@ impl Drop for MemWire {
 }
 
 // Fills the front of the buffer.
+fn fill(bytes: &Bytes, buf: &mut [u8]) -> Received
+    ensures within { IsWithin result (length buf.new) }
+    ensures came { arrival result buf.new ≡ cut_to (length buf.old) (Item.Datagram bytes.now) }
+    ensures same_length { length buf.new ≡ length buf.old }
+{
+    let count = bytes.len().min(buf.len());
+    buf[..count].copy_from_slice(&bytes.as_slice()[..count]);
+    Received::Datagram(count)
+}
+
+// What the item brings, at the front of the buffer.
 fn answer_of(item: &Item, buf: &mut [u8]) -> Received
     ensures within { IsWithin result (length buf.new) }
     ensures came { arrival result buf.new ≡ cut_to (length buf.old) item.now }
+    ensures same_length { length buf.new ≡ length buf.old }
 {
     match item {
         Item::Quiet => Received::Quiet,
-        Item::Datagram(bytes) => {
-            let count = bytes.len().min(buf.len());
-            buf[..count].copy_from_slice(&bytes.as_slice()[..count]);
-            Received::Datagram(count)
-        }
+        Item::Datagram(bytes) => fill(bytes, buf),
+        Item::Reply(_, bytes) => fill(bytes, buf),
     }
 }
 
-fn item_of(alloc: Global, answer: Received, buf: &[u8]) -> Result<Item, AllocError>
+// What is kept of a receive.
+fn kept_of(alloc: Global, answer: Received, buf: &[u8]) -> Result<Kept, AllocError>
     requires { IsWithin answer (length buf.now) }
-    ensures { IfOk result (λ item. arrival_of item ≡ arrival answer buf.now) }
+    ensures { IfOk result (λ kept. traffic_in kept ≡ inbound (arrival answer buf.now)) }
 {
     match answer {
-        Received::Quiet => Ok(Item::Quiet),
+        Received::Quiet => Ok(Kept::Nothing),
         Received::Datagram(count) => {
             let bytes = Bytes::from_vec(Vec::from_slice(alloc, &buf[..count])?);
-            Ok(Item::Datagram(bytes))
+            Ok(Kept::Inbound(bytes))
         }
     }
 }
 
-// The first item of a script, and that nothing comes where there is none.
-fn take_item(script: &mut VecDeque<Item>) -> Item
-    ensures item { (room : ℕ) → cut_to room result ≡ first_of room script.old.items }
-    ensures rest { script.new.items ≡ rest_of script.old.items }
+// Does the first item wait for more sends?
+fn is_early(script: &VecDeque<Item>, sends: u64) -> bool
+    ensures { result ≡ is_early sends script.now.items }
 {
+    match script.front() {
+        Some(Item::Reply(least, _)) => sends < *least,
+        _ => false,
+    }
+}
+
+// The first item of a script behind so many sends, and that nothing comes where there is none, or
+// where it is early.
+fn take_item(script: &mut VecDeque<Item>, sends: u64) -> Item
+    ensures item { (room : ℕ) → cut_to room result ≡ first_of sends room script.old.items }
+    ensures rest { script.new.items ≡ rest_of sends script.old.items }
+{
+    if is_early(script, sends) {
+        return Item::Quiet;
+    }
     match take_first(script) {
         Some(item) => item,
         None => Item::Quiet,
@@ -95,7 +123,7 @@ fn take_item(script: &mut VecDeque<Item>) -> Item
 }
 
 impl MemWire {
-    ghost use Rattle.nqs_fakes.specs.Wire.{received_of, sent_of};
+    ghost use Rattle.nqs_fakes.specs.Wire.{traffic_of};
 
     /// A wire to which these items come. The receives and the sends of these numbers fail, from 1
     /// on.
@@ -105,8 +133,7 @@ impl MemWire {
         failing_receives: Vec<u64>,
         failing_sends: Vec<u64>,
     ) -> MemWire
-        ensures received { received_of result ≡ Some [] }
-        ensures sent { sent_of result ≡ Some [] }
+        ensures traffic { traffic_of result ≡ Some [] }
         ensures script { result.script.items ≡ script }
         ensures receives { result.receives.numbers.items ≡ failing_receives.items }
         ensures sends { result.sends.numbers.items ≡ failing_sends.items }
@@ -116,8 +143,7 @@ impl MemWire {
         MemWire {
             alloc,
             script: VecDeque::from(script.into_vec()),
-            received: Items::new(alloc),
-            sent: Items::new(alloc),
+            kept: Items::new(alloc),
             receives: Failures::new(failing_receives),
             sends: Failures::new(failing_sends),
             starved: false,
@@ -131,39 +157,31 @@ impl MemWire {
         &self.script
     }
 
-    /// What came.
-    pub fn received(&self) -> &[Item]
-        ensures { result.now ≡ self.now.received }
+    /// What came and what was to be sent, whether or not the send failed, in the order of the
+    /// calls.
+    pub fn kept(&self) -> &[Kept]
+        ensures { result.now ≡ self.now.kept }
     {
-        self.received.as_slice()
-    }
-
-    /// What was to be sent, whether or not the send failed.
-    pub fn sent(&self) -> &[Sent]
-        ensures { result.now ≡ self.now.sent }
-    {
-        self.sent.as_slice()
+        self.kept.as_slice()
     }
 
     /// Whether memory for what it keeps was refused. Where it wasn't, the wire tells all that it
     /// keeps.
     pub fn is_starved(&self) -> bool
         ensures starved { result ≡ self.now.starved }
-        ensures received { result ≡ false → received_of self.now ≡ Some (map arrival_of self.now.received) }
-        ensures sent { result ≡ false → sent_of self.now ≡ Some (map packet_of self.now.sent) }
+        ensures traffic { result ≡ false → traffic_of self.now ≡ Some (map traffic_in self.now.kept) }
     {
         self.starved
     }
 
-    fn keep_received(&mut self, item: Result<Item, AllocError>)
-        ensures received { IfOk item (λ i. Extends (received_of self.old) (received_of self.new) (arrival_of i ∷ [])) }
-        ensures starved { OnErr item (received_of self.new ≡ None) }
-        ensures sent { Extends (sent_of self.old) (sent_of self.new) [] }
+    fn keep(&mut self, kept: Result<Kept, AllocError>)
+        ensures traffic { IfOk kept (λ k. Extends (traffic_of self.old) (traffic_of self.new) (traffic_in k ∷ [])) }
+        ensures starved { OnErr kept (traffic_of self.new ≡ None) }
         ensures others { (self.new.script ≡ self.old.script) × (self.new.receives ≡ self.old.receives) × (self.new.sends ≡ self.old.sends) }
     {
-        match item {
-            Ok(item) => {
-                if self.received.push(item).is_err() {
+        match kept {
+            Ok(kept) => {
+                if self.kept.push(kept).is_err() {
                     self.starved = true;
                 }
             }
@@ -172,61 +190,53 @@ impl MemWire {
     }
 
     fn keep_sent(&mut self, to: Address, bytes: &[u8])
-        ensures received { Extends (received_of self.old) (received_of self.new) [] }
-        ensures sent { Extends (sent_of self.old) (sent_of self.new) (packet to bytes.now ∷ []) }
+        ensures traffic { Extends (traffic_of self.old) (traffic_of self.new) (outbound (packet to bytes.now) ∷ []) }
         ensures others { (self.new.script ≡ self.old.script) × (self.new.receives ≡ self.old.receives) × (self.new.sends ≡ self.old.sends) }
     {
-        let Ok(bytes) = Vec::from_slice(self.alloc, bytes) else {
-            self.starved = true;
-            return;
+        let kept = match Vec::from_slice(self.alloc, bytes) {
+            Ok(bytes) => Ok(Kept::Outbound(to, Bytes::from_vec(bytes))),
+            Err(refused) => Err(refused),
         };
-        let sent = Sent {
-            to,
-            bytes: Bytes::from_vec(bytes),
-        };
-        if self.sent.push(sent).is_err() {
-            self.starved = true;
-        }
+        self.keep(kept);
     }
 }
 
 impl Wire for MemWire {
-    ghost use Rattle.nqs_fakes.specs.Wire.{received_of, sent_of};
+    ghost use Rattle.nqs_fakes.specs.Wire.{traffic_of};
 
-    ghost received = { received_of };
-
-    ghost sent = { sent_of };
+    ghost traffic = { traffic_of };
 
     ghost receive_faults = { λ w. w.receives.faults };
 
     ghost send_faults = { λ w. w.sends.faults };
 
     fn receive(&mut self, buf: &mut [u8]) -> Result<Received, Failed>
+        requires room { 49152 < length buf.old }
         ensures within { IfOk result (λ r. IsWithin r (length buf.new)) }
         ensures same_length { length buf.new ≡ length buf.old }
-        ensures came { IfOk result (λ r. Extends (received_of self.old) (received_of self.new) (arrival r buf.new ∷ [])) }
-        ensures lost { OnErr result (Extends (received_of self.old) (received_of self.new) []) }
-        ensures sends { Extends (sent_of self.old) (sent_of self.new) [] }
+        ensures came { IfOk result (λ r. Extends (traffic_of self.old) (traffic_of self.new) (inbound (arrival r buf.new) ∷ [])) }
+        ensures lost { OnErr result (Extends (traffic_of self.old) (traffic_of self.new) []) }
         ensures cause { HasCause self.old.receives.faults self.new.receives.faults result }
-        ensures send_faults { self.old.sends.faults ≤ self.new.sends.faults }
-        ensures first { IfOk result (λ r. arrival r buf.new ≡ first_of (length buf.old) self.old.script.items) }
-        ensures rest { OnOk result (self.new.script.items ≡ rest_of self.old.script.items) }
+        ensures uncounted { OnOk result (self.new.receives.faults ≡ self.old.receives.faults) }
+        ensures send_faults { self.new.sends.faults ≡ self.old.sends.faults }
+        ensures first { IfOk result (λ r. arrival r buf.new ≡ first_of self.old.sends.calls (length buf.old) self.old.script.items) }
+        ensures rest { OnOk result (self.new.script.items ≡ rest_of self.old.sends.calls self.old.script.items) }
         ensures left { OnErr result (self.new.script ≡ self.old.script) }
         ensures listed { GoesAsListed self.old.receives self.new.receives result }
         ensures unsent { self.new.sends ≡ self.old.sends }
     {
         self.receives.count()?;
-        let item = take_item(&mut self.script);
+        let item = take_item(&mut self.script, self.sends.calls());
         let answer = answer_of(&item, buf);
-        self.keep_received(item_of(self.alloc, answer, buf));
+        self.keep(kept_of(self.alloc, answer, buf));
         Ok(answer)
     }
 
     fn send(&mut self, to: Address, bytes: &[u8]) -> Result<(), Failed>
-        ensures sends { Extends (sent_of self.old) (sent_of self.new) (packet to bytes.now ∷ []) }
-        ensures receives { Extends (received_of self.old) (received_of self.new) [] }
+        ensures sends { Extends (traffic_of self.old) (traffic_of self.new) (outbound (packet to bytes.now) ∷ []) }
         ensures cause { HasCause self.old.sends.faults self.new.sends.faults result }
-        ensures receive_faults { self.old.receives.faults ≤ self.new.receives.faults }
+        ensures uncounted { OnOk result (self.new.sends.faults ≡ self.old.sends.faults) }
+        ensures receive_faults { self.new.receives.faults ≡ self.old.receives.faults }
         ensures listed { GoesAsListed self.old.sends self.new.sends result }
         ensures unreceived { self.new.receives ≡ self.old.receives }
         ensures left { self.new.script ≡ self.old.script }

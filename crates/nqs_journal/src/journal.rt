@@ -235,6 +235,16 @@ impl<D: Disk> Journal<D> {
         ensures made { IsTrue D.tells → IfOk result (λ journal. history_of journal ≡ extended (D.history disk) (front_calls (snapshot_front snapshot.now))) }
         ensures broken { IsTrue D.tells → IfErr result (λ e. MatchBegin e.0 (D.history disk) (D.history e.1) (front_calls (snapshot_front snapshot.now))) }
         ensures failed { IfErr result (λ e. e.0 ≡ JournalFault.Disk → Rose (D.faults disk) (D.faults e.1)) }
+        // Memory comes before the first call of the disk, reads included.
+        ensures only { IfErr result (λ e. (e.0 ≡ JournalFault.Disk) ⊎ ((e.0 ≡ JournalFault.Memory want) × (e.1 ≡ disk))) }
+        // Which of the two fails is the disk's to say, unless it is starved.
+        ensures exact { IsTrue D.tells → MatchResult result
+            (λ journal. IsExact (D.fails disk) (D.starved disk) (D.starved (disk_of journal)) (D.history disk) (history_of journal)
+            (front_calls (snapshot_front snapshot.now)))
+            (λ e. e.0 ≡ JournalFault.Disk → IsExact (D.fails disk) (D.starved disk) (D.starved e.1) (D.history disk) (D.history e.1)
+            (front_calls (snapshot_front snapshot.now))) }
+        // At Ok none of them was to fail.
+        ensures due { IsTrue D.tells → OnOk result ((i : ℕ) → i < 2 → D.fails disk (moment (D.history disk) + i) ≡ false) }
         ensures running { IfOk result (λ journal. is_stopped journal ≡ false) }
         ensures counted { IfOk result (λ journal. count_of journal ≡ 0) }
         ensures fuse { IsTrue D.tells → (i : ℕ) → MatchResult result (λ journal. D.fails (disk_of journal) i ≡ D.fails disk i)
@@ -291,7 +301,8 @@ impl<D: Disk> Journal<D> {
         requires { IsSnapshotText text.now }
         ensures running { OnOk result (is_stopped self.new ≡ false) }
         ensures stops { OnErr result (is_stopped self.new ≡ true) }
-        ensures counted { OnOk result (count_of self.new ≡ 0) }
+        ensures counted { MatchResult result (λ _. count_of self.new ≡ 0) (λ _. count_of self.new ≡ count_of self.old) }
+        ensures gate { OnErr result (gate_of self.new ≡ gate_of self.old) }
         ensures tells { IsTrue D.tells → OnOk result ((snapshot : List ℕ) → text.now ≡ snapshot_front snapshot ++ 0 ∷ []
             → Tells self.new (snapshot_front snapshot) []) }
         ensures made { IsTrue D.tells → OnOk result (history_of self.new ≡ extended (history_of self.old) (begin_calls text.now)) }

@@ -35,6 +35,11 @@ pub record Packet : Type 0 where
 abbrev pub packet : Address → List ℕ → Packet
 packet to bytes = record { to = to; bytes = bytes }
 
+-- what passed a wire in one call: what a receive brought, or a datagram that was to be sent
+pub data Traffic : Type 0 where
+  inbound : (arrival : Arrival) → Traffic
+  outbound : (packet : Packet) → Traffic
+
 -- what was asked of a launcher, and whether it did it
 pub data Asked : Type 0 where
   launched : (order : LaunchOrder) (script : List ℕ) (ok : Bool) → Asked

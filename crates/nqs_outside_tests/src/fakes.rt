@@ -1,7 +1,9 @@
 //! Each fake once: none is starved, and the calls fail that are to fail.
 
+ghost use Rattle.std.specs.Prelude.{◌≡◌, ◌<◌, length};
+
 use nqs_base::{Bytes, Items, ListOf, Memory, Name};
-use nqs_fakes::{Item, ListClock, MemLauncher, MemOutlet, MemPrinter, MemRunner, MemWire};
+use nqs_fakes::{Item, Kept, ListClock, MemLauncher, MemOutlet, MemPrinter, MemRunner, MemWire};
 use nqs_outside::{Address, Clock, Launcher, Outlet, Printer, Received, RunEnd, Runner, Wire};
 use nqs_types::{HostId, LaunchOrder, Limits, RequestId};
 use std::alloc::Global;
@@ -21,27 +23,58 @@ fn wire(alloc: Global) -> Result<MemWire, Memory> {
     Ok(MemWire::new(alloc, script, receives, sends))
 }
 
+// What a receive brings into a buffer of one byte more than the longest datagram has.
+fn receive(wire: &mut MemWire, buf: &mut [u8]) -> Option<Received>
+    requires { 49152 < length buf.old }
+    ensures { length buf.new ≡ length buf.old }
+{
+    match wire.receive(buf) {
+        Ok(received) => Some(received),
+        Err(_) => None,
+    }
+}
+
 #[test]
 fn receives_what_the_script_has(rt: HostRuntime) -> Result<(), Fail> {
+    let mut buf = vec![in rt.alloc(); 0u8; 49_153]?;
     let mut wire = wire(rt.alloc())?;
-    let mut buf = [0u8; 3];
-    let first = wire.receive(&mut buf) == Ok(Received::Datagram(3)) && buf == *b"abc";
-    let second = wire.receive(&mut buf).is_err() && wire.script().len() == 1;
-    let third = wire.receive(&mut buf) == Ok(Received::Quiet);
-    let fourth = wire.receive(&mut buf) == Ok(Received::Quiet);
-    let kept = wire.received().len() == 3 && !wire.is_starved();
+    let first = receive(&mut wire, &mut buf) == Some(Received::Datagram(4))
+        && buf.starts_with(b"abcd");
+    let second = receive(&mut wire, &mut buf).is_none() && wire.script().len() == 1;
+    let third = receive(&mut wire, &mut buf) == Some(Received::Quiet);
+    let fourth = receive(&mut wire, &mut buf) == Some(Received::Quiet);
+    let kept = wire.kept().len() == 3 && !wire.is_starved();
     drop(wire);
     assert_eq!(rt; [first, second, third, fourth, kept], [true; 5]);
     Ok(())
 }
 
+// A reply comes once there were as many sends as it waits for, and is the first item until then.
+#[test]
+fn replies_to_what_was_sent(rt: HostRuntime) -> Result<(), Fail> {
+    let alloc = rt.alloc();
+    let mut buf = vec![in alloc; 0u8; 49_153]?;
+    let script = Items::of(alloc, Item::Reply(1, bytes(alloc, b"so")?))?;
+    let mut wire = MemWire::new(alloc, script, Vec::new(alloc), Vec::new(alloc));
+    let early = receive(&mut wire, &mut buf) == Some(Received::Quiet) && wire.script().len() == 1;
+    let sent = wire.send(Address::Client(9), b"a").is_ok();
+    let due = receive(&mut wire, &mut buf) == Some(Received::Datagram(2)) && buf.starts_with(b"so");
+    let order = matches!(
+        wire.kept(),
+        [Kept::Nothing, Kept::Outbound(_, _), Kept::Inbound(_)]
+    );
+    drop(wire);
+    assert_eq!(rt; [early, sent, due, order], [true; 4]);
+    Ok(())
+}
+
 fn has_sent(wire: &MemWire) -> bool {
-    match wire.sent() {
-        [first, second] => {
-            first.to == Address::Client(9)
-                && first.bytes.as_slice() == b"a".as_slice()
-                && second.to == Address::Host(HostId(1))
-                && second.bytes.len() == 0
+    match wire.kept() {
+        [Kept::Outbound(to, first), Kept::Outbound(other, second)] => {
+            *to == Address::Client(9)
+                && first.as_slice() == b"a".as_slice()
+                && *other == Address::Host(HostId(1))
+                && second.len() == 0
         }
         _ => false,
     }

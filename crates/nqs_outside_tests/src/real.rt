@@ -6,10 +6,10 @@ use nqs_outside::{
 };
 use nqs_real::{
     FileDisk, FileOutlet, FilePrinter, HostLock, ShellRunner, ShepherdLauncher, SiteFault,
-    SiteHost, SystemClock, UdpWire, fill_streams, make_host_folder, names_of, open_disks,
-    own_program, read_site,
+    SiteHost, SystemClock, UdpWire, fill_streams, lock_holder, lost_name, make_host_folder,
+    missing_disk, names_differ, names_of, open_disks, own_program, read_site,
 };
-use nqs_types::{HostId, LaunchOrder, Limits, RequestId};
+use nqs_types::{HostId, LaunchOrder, Limits, RequestId, Which};
 use std::os::unix::fs::PermissionsExt;
 use std::rt::HostRuntime;
 use std::test::Fail;
@@ -38,30 +38,32 @@ pub(crate) fn site_of_alpha(rt: &HostRuntime) -> Result<Vec<SiteHost>, Fail> {
     Ok(read_site(rt.alloc(), text.as_bytes())?)
 }
 
-// Site files, and how many hosts they have.
-static SITES: [(&[u8], Option<usize>); 15] = [
-    (b"alpha 127.0.0.1 7001\n", Some(1)),
-    (b"alpha 10.0.0.1 1\nbeta-2 255.255.255.255 65535\n", Some(2)),
-    (b"", None),
-    (b"\n", None),
-    (b"alpha 127.0.0.1 7001", None),
-    (b"alpha 127.0.0.1 7001\n\n", None),
-    (b"alpha 127.0.0.1\n", None),
-    (b"alpha 127.0.0.1 7001 x\n", None),
-    (b"alpha  127.0.0.1 7001\n", None),
-    (b"alpha 127.0.0 7001\n", None),
-    (b"alpha localhost 7001\n", None),
-    (b"alpha 127.0.0.1 0\n", None),
-    (b"alpha 127.0.0.1 65536\n", None),
-    (b"1alpha 127.0.0.1 7001\n", None),
-    (b"a 127.0.0.1 1\na 127.0.0.1 2\n", None),
+// Site files, and how many hosts they have, or which line is wrong.
+static SITES: [(&[u8], Result<u64, u64>); 17] = [
+    (b"alpha 127.0.0.1 7001\n", Ok(1)),
+    (b"alpha 10.0.0.1 1\nbeta-2 255.255.255.255 65535\n", Ok(2)),
+    (b"", Err(1)),
+    (b"\n", Err(1)),
+    (b"alpha 127.0.0.1 7001", Err(1)),
+    (b"alpha 127.0.0.1 7001\nbeta 127.0.0.1 7002", Err(2)),
+    (b"alpha 127.0.0.1 7001\n\n", Err(2)),
+    (b"alpha 127.0.0.1\n", Err(1)),
+    (b"alpha 127.0.0.1 7001 x\n", Err(1)),
+    (b"alpha  127.0.0.1 7001\n", Err(1)),
+    (b"alpha 127.0.0 7001\n", Err(1)),
+    (b"alpha localhost 7001\n", Err(1)),
+    (b"alpha 127.0.0.1 0\n", Err(1)),
+    (b"alpha 127.0.0.1 65536\n", Err(1)),
+    (b"a 127.0.0.1 1\nb 127.0.0.1 2\n1c 127.0.0.1 3\n", Err(3)),
+    (b"1alpha 127.0.0.1 7001\n", Err(1)),
+    (b"a 127.0.0.1 1\na 127.0.0.1 2\n", Err(2)),
 ];
 
-fn hosts_of(rt: &HostRuntime, text: &[u8]) -> Option<usize> {
+fn hosts_of(rt: &HostRuntime, text: &[u8]) -> Result<u64, u64> {
     match read_site(rt.alloc(), text) {
-        Ok(site) => names_of(rt.alloc(), &site).ok().map(|names| names.len()),
-        Err(SiteFault::Form) => None,
-        Err(SiteFault::Memory(_)) => Some(0),
+        Ok(site) => Ok(names_of(rt.alloc(), &site).map_or(0, |names| names.len() as u64)),
+        Err(SiteFault::Line(line)) => Err(line),
+        Err(SiteFault::Memory(_)) => Ok(0),
     }
 }
 
@@ -129,7 +131,7 @@ fn order_of(seq: u32, cpu: Option<u64>, memory: Option<u64>) -> Result<LaunchOrd
     })
 }
 
-fn put_outputs(rt: &HostRuntime, folder: &str) -> io::Result<[bool; 7]> {
+fn put_outputs(rt: &HostRuntime, folder: &str) -> io::Result<[bool; 8]> {
     let mut outlet = FileOutlet::open(*rt, folder)?;
     // What a stop left of a file that was being written.
     let new = format!(in rt.alloc(); "{folder}/output.new")?;
@@ -139,9 +141,20 @@ fn put_outputs(rt: &HostRuntime, folder: &str) -> io::Result<[bool; 7]> {
         outlet.write_file(b"a/b/c", b"an older text").is_ok(),
         outlet.write_file(b"a/b/c", b"42\n").is_ok(),
         outlet.write_file(b"STDIN.o1", b"").is_ok(),
-        outlet.write_file(b"a/../b", b"").is_err(),
-        outlet.write_file(b"/a", b"").is_err(),
-        outlet.write_file(b"a/", b"").is_err(),
+        outlet.write_file(b"a/../b", b"above").is_ok(),
+        outlet.write_file(b"/a", b"root").is_ok(),
+        outlet.write_file(b"a/", b"folder").is_ok(),
+        outlet.write_file(b"a/", b"once more").is_ok(),
+    ])
+}
+
+// Outputs that can't be written at their path, by the names that they have.
+fn has_lost(rt: &HostRuntime, folder: &str) -> io::Result<[bool; 4]> {
+    Ok([
+        has_text(rt, folder, "output.lost/a%2F..%2Fb", "above")?,
+        has_text(rt, folder, "output.lost/%2Fa", "root")?,
+        has_text(rt, folder, "output.lost/a%2F", "folder")?,
+        has_text(rt, folder, "output.lost/a%2F~2", "once more")?,
     ])
 }
 
@@ -153,13 +166,17 @@ fn print_page(rt: &HostRuntime, folder: &str) -> Result<bool, Fail> {
     Ok(printer.print(&device, &order, b"page").is_ok())
 }
 
-fn put_and_print(rt: &HostRuntime, folder: &str) -> Result<([bool; 7], [bool; 4]), Fail> {
+fn put_and_print(
+    rt: &HostRuntime,
+    folder: &str,
+) -> Result<([bool; 8], [bool; 4], [bool; 4]), Fail> {
     let put = put_outputs(rt, folder)?;
     let is_printed = print_page(rt, folder)?;
     let has_output = has_text(rt, folder, "output/a/b/c", "42\n")?;
     let is_short = has_text(rt, folder, "output/short", "42\n")?;
     let has_page = has_text(rt, folder, "printed/laser/2.alpha.1", "page")?;
-    Ok((put, [is_printed, has_output, is_short, has_page]))
+    let lost = has_lost(rt, folder)?;
+    Ok((put, lost, [is_printed, has_output, is_short, has_page]))
 }
 
 #[test]
@@ -168,7 +185,7 @@ fn files_come_whole(rt: HostRuntime) -> Result<(), Fail> {
     let found = put_and_print(&rt, &folder)?;
     fs::remove_dir_all(&rt, &folder)?;
     drop(folder);
-    assert_eq!(rt; found, ([true; 7], [true; 4]));
+    assert_eq!(rt; found, ([true; 8], [true; 4], [true; 4]));
     Ok(())
 }
 
@@ -176,6 +193,74 @@ fn files_come_whole(rt: HostRuntime) -> Result<(), Fail> {
 fn mode_at(rt: &HostRuntime, folder: &str, path: &str) -> io::Result<u32> {
     let path = format!(in rt.alloc(); "{folder}/{path}")?;
     Ok(fs::metadata(rt, &path)?.permissions().mode() % 0o1000)
+}
+
+// Flat names of paths, by hand.
+static NAMES: [(&[u8], &str); 7] = [
+    (b"STDIN.o1", "STDIN.o1"),
+    (b"results/", "results%2F"),
+    (b".", "%2E"),
+    (b"./a.b", "%2E%2Fa.b"),
+    (b"100%~", "100%25%7E"),
+    (b"a b\xff", "a%20b%FF"),
+    (b"", ""),
+];
+
+fn is_named(rt: &HostRuntime, path: &[u8], name: &str) -> io::Result<bool> {
+    Ok(lost_name(rt.alloc(), path)?.as_str() == name)
+}
+
+#[test]
+fn lost_outputs_have_names(rt: HostRuntime) -> Result<(), Fail> {
+    for row in &NAMES {
+        assert!(rt; is_named(&rt, row.0, row.1)?);
+    }
+    let long = [b'/'; 255];
+    assert_eq!(rt; lost_name(rt.alloc(), &long)?.len(), 240);
+    names_differ();
+    Ok(())
+}
+
+// Which disk is missing in an empty folder, beside empty ones, beside one with bytes, and where all
+// are there.
+fn find_missing(rt: &HostRuntime, folder: &str) -> io::Result<[Option<Which>; 4]> {
+    let none = missing_disk(rt, folder)?;
+    let root = format!(in rt.alloc(); "{folder}/root")?;
+    let spool = format!(in rt.alloc(); "{folder}/spool")?;
+    fs::write(rt, &spool, b"".as_slice())?;
+    let empty = missing_disk(rt, folder)?;
+    fs::write(rt, &spool, b"a byte".as_slice())?;
+    let first = missing_disk(rt, folder)?;
+    drop(open_disks(rt, folder)?);
+    let all = missing_disk(rt, folder)?;
+    fs::remove_file(rt, &root)?;
+    Ok([none, empty.or(all), first, missing_disk(rt, folder)?])
+}
+
+#[test]
+fn a_missing_disk_is_found(rt: HostRuntime) -> Result<(), Fail> {
+    let folder = fresh_folder(&rt, "missing")?;
+    let found = find_missing(&rt, &folder)?;
+    fs::remove_dir_all(&rt, &folder)?;
+    drop(folder);
+    assert_eq!(rt; found, [None, None, Some(Which::Root), Some(Which::Root)]);
+    Ok(())
+}
+
+// Who has a lock is this process, while it has it.
+#[test]
+fn a_lock_has_a_holder(rt: HostRuntime) -> Result<(), Fail> {
+    let folder = fresh_folder(&rt, "holder")?;
+    let lock = HostLock::take(&rt, &folder)?;
+    let holder = lock_holder(&rt, &folder);
+    drop(lock);
+    let nobody = lock_holder(&rt, &folder);
+    fs::remove_dir_all(&rt, &folder)?;
+    drop(folder);
+    let own = u64::from(process::id(rt.process()));
+    assert!(rt; holder.is_none() || holder == Some(own));
+    assert_eq!(rt; nobody, None);
+    Ok(())
 }
 
 // Paths below the folder of a host, and their modes: nobody but the owner has rights.
@@ -242,26 +327,28 @@ fn the_process_is_there(rt: HostRuntime) -> Result<(), Fail> {
     Ok(())
 }
 
-fn ask(client: &mut UdpWire, port: u16, daemon: &mut UdpWire) -> [bool; 8] {
-    let mut buf = [0u8; 4];
+fn ask(client: &mut UdpWire, port: u16, daemon: &mut UdpWire, buf: &mut [u8]) -> [bool; 8]
+    requires { 49152 < length buf.old }
+{
     [
         client.send(Address::Host(HOST), b"ask") == Ok(()),
         client.send(Address::Host(HostId(1)), b"ask") == Err(Failed),
-        daemon.receive(&mut buf) == Ok(Received::Datagram(3)),
-        buf == *b"ask\0",
+        daemon.receive(buf) == Ok(Received::Datagram(3)),
+        buf.starts_with(b"ask\0"),
         daemon.send(Address::Client(port), b"answers") == Ok(()),
-        client.receive(&mut buf) == Ok(Received::Datagram(4)),
-        buf == *b"answ",
-        client.receive(&mut buf) == Ok(Received::Quiet),
+        client.receive(buf) == Ok(Received::Datagram(7)),
+        buf.starts_with(b"answers\0"),
+        client.receive(buf) == Ok(Received::Quiet),
     ]
 }
 
 // Also where there is always something to receive.
-fn gets_quiet(wire: &mut UdpWire) -> bool {
-    let mut buf = [0u8; 4];
+fn gets_quiet(wire: &mut UdpWire, buf: &mut [u8]) -> bool
+    requires { 49152 < length buf.old }
+{
     for _ in 0..1_000_000 {
         let _ = wire.send(Address::Host(HOST), b"to itself");
-        if wire.receive(&mut buf) == Ok(Received::Quiet) {
+        if wire.receive(buf) == Ok(Received::Quiet) {
             return true;
         }
     }
@@ -272,7 +359,9 @@ fn talk(rt: &HostRuntime) -> Result<([bool; 8], bool), Fail> {
     let site = site_of_alpha(rt)?;
     let mut daemon = UdpWire::of_daemon(*rt, &site, HOST, 200)?;
     let (mut client, port) = UdpWire::of_client(*rt, &site, 200)?;
-    Ok((ask(&mut client, port, &mut daemon), gets_quiet(&mut daemon)))
+    let mut buf = vec![in rt.alloc(); 0u8; 49_153]?;
+    let asked = ask(&mut client, port, &mut daemon, &mut buf);
+    Ok((asked, gets_quiet(&mut daemon, &mut buf)))
 }
 
 #[test]

@@ -7,3 +7,4 @@ pub mod SaneLaws
 pub mod Fields
 pub mod Bodies
 pub mod FirstFaults
+pub mod NoMemory

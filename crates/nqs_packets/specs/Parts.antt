@@ -1,10 +1,10 @@
 -- Readings of what datagrams have beside the fields of records.
-use Rattle.std.specs.Prelude.{ℕ, ◌+◌, Bool, true, ◌&&◌, ◌==◌, nat_le, nat_lt, List, [], ◌∷◌, length, take, drop, if◌then◌else◌, Ok, Err}
+use Rattle.std.specs.Prelude.{◌≡◌, ℕ, ◌+◌, Bool, true, ◌&&◌, ◌==◌, nat_le, nat_lt, List, [], ◌∷◌, length, take, drop, if◌then◌else◌, Ok, Err}
 use Rattle.nqs_types.specs.declared.message.Tool.{Tool}
 use Rattle.nqs_types.specs.declared.message.Tool.TheVariants.{Qsub, Qstat, Qdel, Qmgr, Tick}
 use Rattle.nqs_rules.specs.Sane.{is_offer_refusal}
 use Rattle.nqs_records.specs.declared.fault.RecordFault.TheVariants.{Short}
-use Rattle.nqs_records.specs.Reading.{Reading, mapped, both, within, counted, numbered}
+use Rattle.nqs_records.specs.Reading.{Read, Reading, mapped, both, within, counted, numbered, is_memory}
 use Rattle.nqs_records.specs.Fields.{u8_at, u16_at, u32_at, u64_at}
 
 -- numbers of handovers and stages
@@ -30,6 +30,16 @@ run_at count bytes place =
 -- bytes behind their length, which passes a test
 unfoldable pub bytes_at : (ℕ → Bool) → Reading (List ℕ)
 bytes_at is_length = mapped (λ v. v.1) (both (within is_length u32_at) λ count. run_at count)
+
+-- a value is there
+abbrev pub IsThere : {A : Type 0} → Read A → Type 0
+IsThere {A} (Ok a) = Unit {0}
+IsThere {A} (Err fault) = ⊥
+
+-- Memory is wanting only where the value is there: what is too short is short, whatever memory there
+-- is, and none is asked for what isn't there.
+abbrev pub WantsWhatIsThere : {A : Type 0} → Read A → Read A → Type 0
+WantsWhatIsThere {A} read answer = is_memory answer ≡ true → IsThere read
 
 -- any length that four bytes hold
 abbrev pub is_any : ℕ → Bool

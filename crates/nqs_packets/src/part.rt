@@ -7,6 +7,7 @@ ghost use Rattle.nqs_records.specs.Reading.{Answers, within};
 ghost use Rattle.nqs_records.specs.Fields.{u16_at, u32_at};
 ghost use Rattle.nqs_records.specs.Values.{is_at_most};
 ghost use Rattle.nqs_packets.specs.Parts.{number_at, cause_at, run_at, bytes_at, is_any, tool_at, is_word_count, words_at};
+ghost use Rattle.nqs_packets.specs.Parts.{WantsWhatIsThere};
 
 use nqs_base::{Bytes, Items};
 use nqs_codec::rest_at;
@@ -61,7 +62,8 @@ fn read_run(
     place: u64,
     count: u32,
 ) -> Result<(Bytes, u64), RecordFault>
-    ensures { Answers (run_at count bytes.now place) result }
+    ensures answer { Answers (run_at count bytes.now place) result }
+    ensures there { WantsWhatIsThere (run_at count bytes.now place) result }
 {
     let rest = rest_at(bytes, place);
     if rest.len() < count as usize {
@@ -90,7 +92,8 @@ pub(crate) fn read_short_bytes(
     place: u64,
     limit: u32,
 ) -> Result<(Bytes, u64), RecordFault>
-    ensures { Answers (bytes_at (is_at_most limit) bytes.now place) result }
+    ensures answer { Answers (bytes_at (is_at_most limit) bytes.now place) result }
+    ensures there { WantsWhatIsThere (bytes_at (is_at_most limit) bytes.now place) result }
 {
     let (length, next) = read_length(bytes, place, limit)?;
     read_run(alloc, bytes, next, length)
@@ -103,7 +106,8 @@ pub(crate) fn read_bytes(
     bytes: &[u8],
     place: u64,
 ) -> Result<(Bytes, u64), RecordFault>
-    ensures { Answers (bytes_at is_any bytes.now place) result }
+    ensures answer { Answers (bytes_at is_any bytes.now place) result }
+    ensures there { WantsWhatIsThere (bytes_at is_any bytes.now place) result }
 {
     let (length, next) = read_u32(bytes, place)?;
     read_run(alloc, bytes, next, length)

@@ -1,4 +1,6 @@
 pub mod Ends
+pub mod Lost
 pub mod Marks
+pub mod Missing
 pub mod Names
 pub mod Shortages

@@ -23,7 +23,8 @@ impl SystemClock {
     }
 }
 
-fn seconds(rt: &HostRuntime) -> Option<u64> {
+/// The seconds since 1970, where the clock can be read and stands behind it.
+pub(crate) fn seconds(rt: &HostRuntime) -> Option<u64> {
     let now = SystemTime::now(rt).ok()?;
     let since = now.duration_since(UNIX_EPOCH).ok()?;
     Some(since.as_secs())

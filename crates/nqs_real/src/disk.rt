@@ -2,15 +2,17 @@
 
 ghost use Rattle.std.specs.Prelude.{◌≡◌, ◌≤◌, ◌+◌, ◌^◌, IfOk, OnOk, length, false, []};
 ghost use Rattle.nqs_outside.specs.History.{fresh};
+ghost use Rattle.nqs_real.specs.Missing.{has_bytes, first_missing, missing_of};
 
 use crate::counted::counted;
 use crate::folder::{path_in, sync_folder};
 use nqs_outside::{Disk, Failed};
+use nqs_types::Which;
 use std::fs::{File, OpenOptions};
-use std::io;
 use std::io::ErrorKind;
 use std::os::unix::fs::{FileExt, OpenOptionsExt};
 use std::rt::HostRuntime;
+use std::{fs, io};
 
 /// No disk is longer: 2^40 bytes.
 const LONGEST: u64 = 1 << 40;
@@ -157,4 +159,67 @@ pub fn open_disks(rt: &HostRuntime, folder: &str) -> io::Result<HostDisks>
         second: FileDisk::open(rt, folder, "second")?,
         spool: FileDisk::open(rt, folder, "spool")?,
     })
+}
+
+// How many bytes the file has, where it is there.
+fn length_at(rt: &HostRuntime, folder: &str, name: &str) -> io::Result<Option<u64>> {
+    match fs::metadata(rt, &path_in(rt, folder, name)?) {
+        Ok(data) => Ok(Some(data.len())),
+        Err(e) if e.kind() == ErrorKind::NotFound => Ok(None),
+        Err(e) => Err(e),
+    }
+}
+
+// The first one that isn't there.
+fn first_missing(
+    root: Option<u64>,
+    first: Option<u64>,
+    second: Option<u64>,
+    spool: Option<u64>,
+) -> Option<Which>
+    ensures { result ≡ first_missing root first second spool }
+{
+    match (root, first, second, spool) {
+        (None, _, _, _) => Some(Which::Root),
+        (_, None, _, _) => Some(Which::First),
+        (_, _, None, _) => Some(Which::Second),
+        (_, _, _, None) => Some(Which::Spool),
+        _ => None,
+    }
+}
+
+fn has_bytes(length: Option<u64>) -> bool
+    ensures { result ≡ has_bytes length }
+{
+    match length {
+        Some(length) => length > 0,
+        None => false,
+    }
+}
+
+// The first one that isn't there, where another has bytes: these are the lengths of those that are.
+fn missing_of(
+    root: Option<u64>,
+    first: Option<u64>,
+    second: Option<u64>,
+    spool: Option<u64>,
+) -> Option<Which>
+    ensures { result ≡ missing_of root first second spool }
+{
+    if has_bytes(root) || has_bytes(first) || has_bytes(second) || has_bytes(spool) {
+        first_missing(root, first, second, spool)
+    } else {
+        None
+    }
+}
+
+/// Which disk of a host isn't there, by the files in its folder, where another one has bytes: the
+/// first of `root`, `first`, `second` and `spool`. `open_disks` would make it anew and empty, and
+/// the host would be another one. It looks and touches nothing; the folder need not be there.
+pub fn missing_disk(rt: &HostRuntime, folder: &str) -> io::Result<Option<Which>> {
+    let root = length_at(rt, folder, "root")?;
+    let first = length_at(rt, folder, "first")?;
+    let second = length_at(rt, folder, "second")?;
+    let spool = length_at(rt, folder, "spool")?;
+    Ok(missing_of(root, first, second, spool))
 }

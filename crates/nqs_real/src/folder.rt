@@ -8,7 +8,7 @@ use nqs_base::Name;
 use nqs_types::{HostId, RequestId};
 use std::fs::{DirBuilder, File, OpenOptions};
 use std::io::ErrorKind;
-use std::os::unix::fs::{DirBuilderExt, OpenOptionsExt};
+use std::os::unix::fs::{DirBuilderExt, MetadataExt, OpenOptionsExt};
 use std::rt::HostRuntime;
 use std::{fs, io};
 
@@ -72,6 +72,16 @@ pub(crate) fn request_text(rt: &HostRuntime, site: &[SiteHost], id: RequestId) -
     Ok(format!(in rt.alloc(); "{}.{host}", id.seq)?)
 }
 
+/// The path of the folder `DIR/HOST` of a host of the site, which need not be there.
+pub fn host_folder(
+    rt: &HostRuntime,
+    dir: &str,
+    site: &[SiteHost],
+    host: HostId,
+) -> io::Result<String> {
+    path_in(rt, dir, host_text(site, host)?)
+}
+
 /// The folder `DIR/HOST` of a host of the site, which is made where it isn't there. All that a host
 /// keeps stands below it.
 pub fn make_host_folder(
@@ -114,4 +124,33 @@ impl HostLock {
         file.try_lock()?;
         Ok(HostLock { _file: file })
     }
+}
+
+// The number of the process that has a lock on the file with this number, by a line of
+// `/proc/locks`: `1: FLOCK  ADVISORY  WRITE 4242 08:01:131090 0 EOF`.
+fn holder_in(line: &str, file: &str) -> Option<u64> {
+    let mut words = line.split_ascii_whitespace().skip(4);
+    let process = words.next()?;
+    let place = words.next()?;
+    let (_, number) = place.rsplit_once(':')?;
+    if number == file {
+        process.parse().ok()
+    } else {
+        None
+    }
+}
+
+// The process that `/proc/locks` names for this file.
+fn holder_of(rt: &HostRuntime, file: u64) -> io::Result<Option<u64>> {
+    let file = format!(in rt.alloc(); "{file}")?;
+    let locks = fs::read_to_string(rt, "/proc/locks")?;
+    Ok(locks.lines().find_map(|line| holder_in(line, &file)))
+}
+
+/// The number of the process that has the lock of a host's folder, where the system tells it in
+/// `/proc/locks`.
+pub fn lock_holder(rt: &HostRuntime, folder: &str) -> Option<u64> {
+    let path = path_in(rt, folder, "lock").ok()?;
+    let file = fs::metadata(rt, &path).ok()?.ino();
+    holder_of(rt, file).ok()?
 }

@@ -13,6 +13,7 @@
 ghost use Rattle.std.specs.Prelude.{◌≡◌, ◌<◌, ◌≤◌};
 ghost use Rattle.nqs_real.specs.Marks.{is_mark, is_marked};
 
+use crate::notices::tell;
 use crate::program::end_processes;
 use crate::shortage::{Waits, is_shortage};
 use nqs_text::read_u64;
@@ -235,7 +236,9 @@ fn tell_process(rt: &HostRuntime, number: &str, jobs: &str) -> io::Result<()> {
     let environ = fs::read_to_string(rt, format!(in rt.alloc(); "/proc/{number}/environ")?)?;
     let request = request_of(job_of(&environ, jobs).unwrap_or("a job"));
     let command = command.trim();
-    eprintln!(rt; "nqs: process {number} ({command}) of {request} can't be ended")
+    let text = format!(in rt.alloc(); "process {number} ({command}) of {request} can't be ended")?;
+    tell(rt, &text);
+    Ok(())
 }
 
 /// Says on standard error which processes of jobs with folders in this one there are: a line each,

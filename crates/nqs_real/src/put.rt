@@ -10,6 +10,26 @@ use std::rt::HostRuntime;
 /// The longest path, in bytes.
 const LONGEST: usize = 255;
 
+/// What the system answers where the device failed (EIO), and where it has no room for another open
+/// file (ENFILE, EMFILE) or for the call (ENOBUFS).
+const PASSING: [i32; 4] = [5, 23, 24, 105];
+
+/// Is it a fault that may pass while the path stays as it is: want of space, of memory or of open
+/// files, or a device that fails?
+pub(crate) fn is_passing(e: &io::Error) -> bool {
+    let is_kind = matches!(
+        e.kind(),
+        ErrorKind::StorageFull
+            | ErrorKind::QuotaExceeded
+            | ErrorKind::OutOfMemory
+            | ErrorKind::WouldBlock
+            | ErrorKind::Interrupted
+            | ErrorKind::TimedOut
+            | ErrorKind::StaleNetworkFileHandle
+    );
+    is_kind || e.raw_os_error().is_some_and(|code| PASSING.contains(&code))
+}
+
 /// Does the path name a file below the folder that it starts from: 1 to 255 bytes that are seen, no
 /// `/` in front, and no part `..`?
 pub(crate) fn is_below(path: &str) -> bool {
@@ -19,7 +39,8 @@ pub(crate) fn is_below(path: &str) -> bool {
     fits && is_seen && !climbs && !path.starts_with('/')
 }
 
-fn path_text(path: &[u8]) -> io::Result<&str> {
+/// A path as text, where it names a file below the folder that it starts from.
+pub(crate) fn path_text(path: &[u8]) -> io::Result<&str> {
     match str::from_utf8(path) {
         Ok(text) if is_below(text) => Ok(text),
         _ => Err(io::Error::from(ErrorKind::InvalidInput)),

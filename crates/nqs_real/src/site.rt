@@ -22,8 +22,9 @@ pub struct SiteHost {
 /// Why a site can't be read.
 #[derive(Debug, PartialEq, Eq, Drop)]
 pub enum SiteFault {
-    /// The bytes are no site file.
-    Form,
+    /// This line, counted from 1, isn't that of a host more: it has another form, names a host a
+    /// second time, is a 17th, or ends without a line feed.
+    Line(u64),
     Memory(Memory),
 }
 
@@ -57,25 +58,33 @@ fn has_name(site: &[SiteHost], name: &Name) -> bool {
     site.iter().any(|host| host.name == *name)
 }
 
+// The number of the last line, where the bytes end within it.
+fn last_line(bytes: &[u8]) -> u64 {
+    let ended = bytes.iter().filter(|byte| **byte == b'\n').count();
+    (ended as u64).saturating_add(1)
+}
+
 /// The hosts of a site file.
 pub fn read_site(alloc: Global, bytes: &[u8]) -> Result<Vec<SiteHost>, SiteFault>
     ensures { IfOk result (λ site. (1 ≤ length site.items) × (length site.items ≤ 16)) }
 {
     let mut site = Vec::new(alloc);
     let Some((b'\n', lines)) = bytes.split_last() else {
-        return Err(SiteFault::Form);
+        return Err(SiteFault::Line(last_line(bytes)));
     };
+    let mut number = 0u64;
     for line in lines.split(|byte| *byte == b'\n') {
+        number = number.saturating_add(1);
         let Some(host) = read_host(line) else {
-            return Err(SiteFault::Form);
+            return Err(SiteFault::Line(number));
         };
         if site.len() == 16 || has_name(&site, &host.name) {
-            return Err(SiteFault::Form);
+            return Err(SiteFault::Line(number));
         }
         site.push(host).map_err(Memory::from)?;
     }
     if site.is_empty() {
-        return Err(SiteFault::Form);
+        return Err(SiteFault::Line(1));
     }
     Ok(site)
 }

@@ -5,21 +5,27 @@ ghost use Rattle.nqs_outside.specs.Asked.{IsWithin};
 
 use crate::counted::counted;
 use crate::site::SiteHost;
+use libc::net::{SO_RCVBUF, SOL_SOCKET, setsockopt};
 use nqs_outside::{Address, Failed, Received, Wire};
 use nqs_types::HostId;
 use std::io;
 use std::io::ErrorKind;
 use std::net::{Ipv4Addr, SocketAddr, SocketAddrV4, UdpSocket};
+use std::os::fd::AsRawFd;
 use std::rt::HostRuntime;
 use std::time::{Duration, Instant};
 
 /// A second, in milliseconds: the longest wait.
 const SECOND: u64 = 1000;
 
-/// A UDP socket as a wire. A receive waits at most until the wire's wait is over, which begins at
-/// the first receive and anew at the first one after each `Quiet`. So under any traffic a `Quiet`
-/// comes once a wait, and after it the next receive looks at the socket. Who sent a datagram is not
-/// known.
+/// For how many bytes of datagrams that wait to be received a socket asks: 8 MB.
+const ROOM: i32 = 8 << 20;
+
+/// A UDP socket as a wire. It asks the system for room for 8 MB of datagrams that wait, and has what
+/// the system allows; one that finds no room is lost, as on any network. A receive waits at most
+/// until the wire's wait is over, which begins at the first receive and anew at the first one after
+/// each `Quiet`. So under any traffic a `Quiet` comes once a wait, and after it the next receive
+/// looks at the socket. Who sent a datagram is not known.
 #[derive(Drop)]
 pub struct UdpWire {
     rt: HostRuntime,
@@ -33,6 +39,14 @@ pub struct UdpWire {
 
 fn at(address: Ipv4Addr, port: u16) -> SocketAddr {
     SocketAddr::V4(SocketAddrV4::new(address, port))
+}
+
+// Asks for room for the datagrams that wait. What isn't granted isn't there: the socket serves with
+// what it has.
+fn ask_for_room(socket: &UdpSocket) {
+    let mut value = [0; 16];
+    value[..4].copy_from_slice(&ROOM.to_ne_bytes());
+    let _ = unsafe { setsockopt(socket.as_raw_fd(), SOL_SOCKET, SO_RCVBUF, &value, 4) };
 }
 
 fn no_such_host() -> io::Error {
@@ -70,6 +84,7 @@ impl UdpWire {
         ensures { IfOk result (λ wire. (wire.receive_faults ≡ 0) × (wire.send_faults ≡ 0)) }
     {
         let socket = UdpSocket::bind(&rt, own)?;
+        ask_for_room(&socket);
         let site = site.to_vec(rt.alloc())?;
         Ok(UdpWire {
             rt,
@@ -143,9 +158,7 @@ fn is_quiet(kind: ErrorKind) -> bool {
 }
 
 impl Wire for UdpWire {
-    ghost received = { λ _. None };
-
-    ghost sent = { λ _. None };
+    ghost traffic = { λ _. None };
 
     ghost receive_faults = { λ wire. wire.receive_faults };
 

@@ -1,34 +1,32 @@
-//! What an event of a schedule is to a daemon.
+//! What an event of a schedule is to the daemon of its one host.
 //!
 //! What is asked for and the ends of jobs come as datagrams, and a tick as a receive that brings
 //! nothing. Other events come back of what went out: `finish`, which is the end of a print, `fail`,
 //! `written` and `unwritten`.
 
 use nqs_base::{Bytes, Items, Name};
-use nqs_types::{HostId, RequestId, WorldEvent};
+use nqs_types::{RequestId, WorldEvent};
 
 /// The words of an ask.
 #[derive(Clone, Copy)]
 pub(crate) enum Words<'a> {
     /// A line of qmgr, which is its one word.
     Line(&'a Bytes),
-    List(&'a [Bytes]),
+    List(&'a Items<Bytes>),
 }
 
-/// What a user asks a host for, by the number of a tool.
+/// What a user asks the host for, by the number of a tool.
 #[derive(Clone, Copy)]
 pub(crate) struct Ask<'a> {
-    pub host: HostId,
     pub user: &'a Name,
     pub tool: u8,
     pub words: Words<'a>,
     pub script: &'a [u8],
 }
 
-/// What a shepherd tells its host of the end of a job.
+/// What a shepherd tells the host of the end of a job.
 #[derive(Clone, Copy)]
 pub(crate) struct Ended<'a> {
-    pub host: HostId,
     pub id: RequestId,
     pub start: u16,
     pub status: u8,
@@ -36,15 +34,13 @@ pub(crate) struct Ended<'a> {
     pub err: &'a [u8],
 }
 
-/// What an event is to the daemon of its host.
+/// What an event is to the daemon.
 #[derive(Clone, Copy)]
 pub(crate) enum Coming<'a> {
     Ask(Ask<'a>),
     Ended(Ended<'a>),
     /// A receive brings nothing.
-    Quiet(HostId),
-    /// The datagram of this number comes that a host sent to another.
-    Packet(u64),
+    Quiet,
     /// It comes back of what went out.
     Back,
     /// It is this moment.
@@ -53,15 +49,8 @@ pub(crate) enum Coming<'a> {
     Nothing,
 }
 
-fn asked<'a>(
-    host: HostId,
-    user: &'a Name,
-    tool: u8,
-    words: Words<'a>,
-    script: &'a [u8],
-) -> Coming<'a> {
+fn asked<'a>(user: &'a Name, tool: u8, words: Words<'a>, script: &'a [u8]) -> Coming<'a> {
     Coming::Ask(Ask {
-        host,
         user,
         tool,
         words,
@@ -69,37 +58,24 @@ fn asked<'a>(
     })
 }
 
-// A list of words that is asked for, with a script.
-fn listed<'a>(
-    host: HostId,
-    user: &'a Name,
-    tool: u8,
-    words: &'a Items<Bytes>,
-    script: &'a [u8],
-) -> Coming<'a> {
-    asked(host, user, tool, Words::List(words.as_slice()), script)
-}
-
 // What an event is that comes of no user.
 fn other_of(event: &WorldEvent) -> Coming<'_> {
     match event {
         WorldEvent::End {
-            host,
+            host: _,
             id,
             start,
             status,
             out,
             err,
         } => Coming::Ended(Ended {
-            host: *host,
             id: *id,
             start: *start,
             status: *status,
             out: out.as_slice(),
             err: err.as_slice(),
         }),
-        WorldEvent::Tick { host } => Coming::Quiet(*host),
-        WorldEvent::Deliver { packet } => Coming::Packet(*packet),
+        WorldEvent::Tick { .. } => Coming::Quiet,
         WorldEvent::Finish { .. } => Coming::Back,
         WorldEvent::Fail { .. } => Coming::Back,
         WorldEvent::Written { .. } => Coming::Back,
@@ -113,14 +89,26 @@ fn other_of(event: &WorldEvent) -> Coming<'_> {
 pub(crate) fn coming_of(event: &WorldEvent) -> Coming<'_> {
     match event {
         WorldEvent::Qsub {
-            host,
+            host: _,
             user,
             script,
             words,
-        } => listed(*host, user, 1, words, script.as_slice()),
-        WorldEvent::Qstat { host, user, words } => listed(*host, user, 2, words, b""),
-        WorldEvent::Qdel { host, user, words } => listed(*host, user, 3, words, b""),
-        WorldEvent::Qmgr { host, user, text } => asked(*host, user, 4, Words::Line(text), b""),
+        } => asked(user, 1, Words::List(words), script.as_slice()),
+        WorldEvent::Qstat {
+            host: _,
+            user,
+            words,
+        } => asked(user, 2, Words::List(words), b""),
+        WorldEvent::Qdel {
+            host: _,
+            user,
+            words,
+        } => asked(user, 3, Words::List(words), b""),
+        WorldEvent::Qmgr {
+            host: _,
+            user,
+            text,
+        } => asked(user, 4, Words::Line(text), b""),
         event => other_of(event),
     }
 }

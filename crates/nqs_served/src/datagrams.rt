@@ -1,36 +1,33 @@
-//! Datagrams, put together by hand as `docs/formats.md` has them: each ask is of the port 9, and
-//! each end of a job of the port 10.
+//! Datagrams of the host 0, put together by hand as `docs/formats.md` has them: each ask is of the
+//! port 9, and each end of a job of the port 10.
 
 use crate::coming::{Ask, Ended, Words};
 use crate::text::put;
 use crate::trouble::Trouble;
-use nqs_base::{Bytes, Memory, Name};
-use nqs_types::{HostId, RequestId};
+use nqs_base::{Bytes, Name};
 
 // What is wrong with bytes that a length can't tell.
-const TOO_LONG: &str = "bytes are too long for a datagram";
+const TOO_LONG: Trouble = Trouble("bytes are too long for a datagram");
 
 fn put_bytes(bytes: &[u8], out: &mut Vec<u8>) -> Result<(), Trouble> {
     let Ok(length) = u32::try_from(bytes.len()) else {
-        return Err(Trouble::Unexpected(TOO_LONG));
+        return Err(TOO_LONG);
     };
     put(&length.to_be_bytes(), out)?;
-    put(bytes, out)?;
-    Ok(())
+    put(bytes, out)
 }
 
 fn put_name(name: &Name, out: &mut Vec<u8>) -> Result<(), Trouble> {
     let Ok(length) = u8::try_from(name.as_bytes().len()) else {
-        return Err(Trouble::Unexpected(TOO_LONG));
+        return Err(TOO_LONG);
     };
-    out.push(length)?;
-    put(name.as_bytes(), out)?;
-    Ok(())
+    put(&[length], out)?;
+    put(name.as_bytes(), out)
 }
 
 fn put_list(words: &[Bytes], out: &mut Vec<u8>) -> Result<(), Trouble> {
     let Ok(count) = u16::try_from(words.len()) else {
-        return Err(Trouble::Unexpected(TOO_LONG));
+        return Err(TOO_LONG);
     };
     put(&count.to_be_bytes(), out)?;
     for word in words {
@@ -45,52 +42,36 @@ fn put_words(words: Words<'_>, out: &mut Vec<u8>) -> Result<(), Trouble> {
             put(&[0, 1], out)?;
             put_bytes(line.as_slice(), out)
         }
-        Words::List(words) => put_list(words, out),
+        Words::List(words) => put_list(words.as_slice(), out),
     }
 }
 
-/// What a user asks a host for, with a token.
+/// What a user asks the host for, with a token.
 pub(crate) fn put_ask(ask: Ask<'_>, token: u64, out: &mut Vec<u8>) -> Result<(), Trouble> {
-    put(&[1, 10, ask.host.0, ask.host.0, 0, 9], out)?;
+    put(&[1, 10, 0, 0, 0, 9], out)?;
     put(&token.to_be_bytes(), out)?;
     put_name(ask.user, out)?;
-    out.push(ask.tool)?;
+    put(&[ask.tool], out)?;
     put_words(ask.words, out)?;
     put_bytes(ask.script, out)
 }
 
-/// What an answer begins with: up to its token.
-pub(crate) fn put_front(host: HostId, token: u64, out: &mut Vec<u8>) -> Result<(), Memory> {
-    put(&[1, 11, host.0, host.0], out)?;
-    put(&token.to_be_bytes(), out)
-}
-
-// A request and its start.
-fn put_start(id: RequestId, start: u16, out: &mut Vec<u8>) -> Result<(), Memory> {
-    put(&id.seq.to_be_bytes(), out)?;
-    out.push(id.host.0)?;
-    put(&start.to_be_bytes(), out)
-}
-
-/// What a shepherd tells its host of the end of a job.
+/// What a shepherd tells the host of the end of a job.
 pub(crate) fn put_ended(ended: Ended<'_>, out: &mut Vec<u8>) -> Result<(), Trouble> {
-    put(&[1, 12, ended.host.0, ended.host.0, 0, 10], out)?;
-    put_start(ended.id, ended.start, out)?;
-    out.push(ended.status)?;
+    put(&[1, 12, 0, 0, 0, 10], out)?;
+    put(&ended.id.seq.to_be_bytes(), out)?;
+    put(&[ended.id.host.0], out)?;
+    put(&ended.start.to_be_bytes(), out)?;
+    put(&[ended.status], out)?;
     put_bytes(ended.out, out)?;
     put_bytes(ended.err, out)
 }
 
-/// Its acknowledgement.
-pub(crate) fn put_acknowledgement(ended: Ended<'_>, out: &mut Vec<u8>) -> Result<(), Memory> {
-    put(&[1, 13, ended.host.0, ended.host.0], out)?;
-    put_start(ended.id, ended.start, out)
-}
-
-/// The text of an answer that begins so, if it is spelled as it is to be. Its flag tells refusals
+/// The text of an answer with this token, if it is spelled as it is to be. Its flag tells refusals
 /// and faults.
-pub(crate) fn text_of<'a>(datagram: &'a [u8], front: &[u8]) -> Option<&'a [u8]> {
-    let rest = datagram.strip_prefix(front)?;
+pub(crate) fn text_of(datagram: &[u8], token: u64) -> Option<&[u8]> {
+    let rest = datagram.strip_prefix([1, 11, 0, 0].as_slice())?;
+    let rest = rest.strip_prefix(token.to_be_bytes().as_slice())?;
     if rest.len() < 5 {
         return None;
     }

@@ -1,6 +1,7 @@
 //! The days of one host that are served.
 
-use crate::day::{Day, put_compared, put_day};
+use crate::day::{Day, put_day};
+use crate::host::Fuse;
 use crate::outside::{Failing, NONE};
 use crate::trouble::Trouble;
 use nqs_types::Which;
@@ -8,15 +9,14 @@ use std::alloc::Global;
 
 // The print is the least request, so `finish` is its end. The fourth call of the launcher fails,
 // and the third file.
-static WHOLE: Day = Day {
-    title: "a day, beside its schedule",
+const WHOLE: Day = Day {
+    title: "a day",
     failing: Failing {
         launches: &[4],
         files: &[3],
         ..NONE
     },
     fuse: None,
-    alone: false,
     schedule: b"clock 1000
 qmgr alpha root add operator=olga
 qmgr alpha root set run_limit=2 batch
@@ -70,7 +70,6 @@ const JOB: Day = Day {
     title: "a job",
     failing: NONE,
     fuse: None,
-    alone: false,
     schedule: b"qmgr alpha root start queue batch
 qsub alpha ann \"date\\n\"
 qstat alpha ann
@@ -135,7 +134,6 @@ const KILL: Day = Day {
         ..NONE
     },
     fuse: None,
-    alone: false,
     schedule: b"qmgr alpha root start queue batch
 qsub alpha ann \"date\\n\"
 qdel alpha ann -k 1.alpha
@@ -153,7 +151,6 @@ const PRINT: Day = Day {
         ..NONE
     },
     fuse: None,
-    alone: false,
     schedule: b"qmgr alpha root create device laser forms=plain
 qmgr alpha root create device_queue paper
 qmgr alpha root add device=laser paper
@@ -186,7 +183,6 @@ const FILE: Day = Day {
         ..NONE
     },
     fuse: None,
-    alone: false,
     schedule: b"qmgr alpha root start queue batch
 qsub alpha ann \"date\\n\"
 end alpha 1.alpha 1 0 \"hi\\n\"
@@ -202,7 +198,6 @@ const SHUTDOWN: Day = Day {
     title: "a shutdown",
     failing: NONE,
     fuse: None,
-    alone: false,
     schedule: b"tick alpha
 qmgr alpha root shutdown
 qstat alpha ann
@@ -210,7 +205,8 @@ qstat alpha ann
     rounds: &[9],
 };
 
-static DAYS: [Day; 11] = [
+static DAYS: [Day; 13] = [
+    WHOLE,
     JOB,
     FIRST_RECEIVE,
     RECEIVE,
@@ -222,84 +218,89 @@ static DAYS: [Day; 11] = [
     SECOND_PRINT,
     FILE,
     SHUTDOWN,
+    // What a failed launch brings back is one change more, when the submission is answered.
+    Day {
+        title: "the launch fails, and the disk first at its call",
+        fuse: Some(Fuse {
+            which: Which::First,
+            call: 13,
+            alone: false,
+        }),
+        ..LAUNCH
+    },
 ];
 
-// What a failed launch brings back is one change more, when the submission is answered.
-static LATE: Day = Day {
-    title: "the launch fails, and the disk first at its call",
-    fuse: Some((Which::First, 13)),
-    ..LAUNCH
-};
-
-fn put_fused(
-    alloc: Global,
+// Days of a job on which a call of a disk fails, each of so many.
+struct Fused {
     title: &'static str,
     which: Which,
-    call: u64,
     alone: bool,
-    out: &mut Vec<u8>,
-) -> Result<(), Trouble> {
+    first: u64,
+    last: u64,
+}
+
+// A failed call ends the daemon, also where the later ones would go on. A change makes four calls
+// of the disk first: those of the edit are 1 to 4, of the submission 5 to 8, of the start 9 to 12.
+// The script makes two of the spool.
+static FUSED: [Fused; 4] = [
+    Fused {
+        title: "the disk first fails at its call",
+        which: Which::First,
+        alone: false,
+        first: 4,
+        last: 13,
+    },
+    Fused {
+        title: "the spool fails at its call",
+        which: Which::Spool,
+        alone: false,
+        first: 1,
+        last: 3,
+    },
+    Fused {
+        title: "the disk first fails, and once, at its call",
+        which: Which::First,
+        alone: true,
+        first: 4,
+        last: 13,
+    },
+    Fused {
+        title: "the spool fails, and once, at its call",
+        which: Which::Spool,
+        alone: true,
+        first: 1,
+        last: 3,
+    },
+];
+
+fn put_at(alloc: Global, fused: &Fused, call: u64, out: &mut Vec<u8>) -> Result<(), Trouble> {
+    let fuse = Fuse {
+        which: fused.which,
+        call,
+        alone: fused.alone,
+    };
     let day = Day {
-        title,
-        fuse: Some((which, call)),
-        alone,
+        title: fused.title,
+        fuse: Some(fuse),
         ..JOB
     };
     put_day(alloc, &day, out)
 }
 
-// A failed call ends the daemon, also where the later ones would go on.
-fn put_alone(alloc: Global, out: &mut Vec<u8>) -> Result<(), Trouble> {
-    for call in 4..14u64 {
-        put_fused(
-            alloc,
-            "the disk first fails, and once, at its call",
-            Which::First,
-            call,
-            true,
-            out,
-        )?;
-    }
-    for call in 1..4u64 {
-        put_fused(
-            alloc,
-            "the spool fails, and once, at its call",
-            Which::Spool,
-            call,
-            true,
-            out,
-        )?;
+fn put_fused(alloc: Global, fused: &Fused, out: &mut Vec<u8>) -> Result<(), Trouble> {
+    for call in fused.first..=fused.last {
+        put_at(alloc, fused, call, out)?;
     }
     Ok(())
 }
 
-/// Prints what is seen of each day. A change makes four calls of the disk first: those of the edit
-/// are 1 to 4, of the submission 5 to 8, of the start 9 to 12. The script makes two of the spool.
+/// Prints what is seen of each day.
 pub(crate) fn put_days(alloc: Global, out: &mut Vec<u8>) -> Result<(), Trouble> {
-    put_compared(alloc, &WHOLE, out)?;
     for day in &DAYS {
         put_day(alloc, day, out)?;
     }
-    put_day(alloc, &LATE, out)?;
-    for call in 4..14u64 {
-        put_fused(
-            alloc,
-            "the disk first fails at its call",
-            Which::First,
-            call,
-            false,
-            out,
-        )?;
+    for fused in &FUSED {
+        put_fused(alloc, fused, out)?;
     }
-    for call in 1..4u64 {
-        put_fused(
-            alloc,
-            "the spool fails at its call",
-            Which::Spool,
-            call,
-            false,
-            out,
-        )?;
-    }
-    put_alone(alloc, out)
+    Ok(())
 }

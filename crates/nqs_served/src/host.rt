@@ -1,7 +1,7 @@
-//! Hosts that are formatted and booted, and served: `alpha` of a site of one, and each of the two
-//! of a site.
+//! The host `alpha` of a site of one, formatted and booted over disks of which a call may fail, and
+//! served.
 
-ghost use Rattle.std.specs.Prelude.{◌≡◌, ◌<◌, false, IfOk};
+ghost use Rattle.std.specs.Prelude.{◌≡◌, [], false, IfOk};
 ghost use Rattle.nqs_types.specs.declared.world.Which.{Which as OneOf};
 ghost use Rattle.nqs_outside.specs.History.{IsQuiet};
 ghost use Rattle.nqs_disk.specs.MemDisk.{history_of as history_of_disk};
@@ -13,8 +13,8 @@ use crate::outside::Outside;
 use crate::trouble::Trouble;
 use nqs_base::{Items, Name};
 use nqs_disk::MemDisk;
-use nqs_net::empty_disks;
 use nqs_node::Node;
+use nqs_outside::Fused;
 use nqs_rules_table::table_of;
 use nqs_schedule::print_seen;
 use nqs_serve::{ServeEnd, serve};
@@ -23,7 +23,16 @@ use nqs_store::{Disks, format};
 use nqs_types::{HostId, Seen, Which};
 use std::alloc::Global;
 
-/// The name of the first host.
+/// A call of a disk that fails, by its number from 1 on behind the boot, and whether it fails
+/// alone. Else each later one fails too.
+#[derive(Clone, Copy)]
+pub(crate) struct Fuse {
+    pub which: Which,
+    pub call: u64,
+    pub alone: bool,
+}
+
+/// The name of the host.
 pub(crate) fn alpha() -> Name {
     match Name::read(b"alpha") {
         Ok(name) => name,
@@ -31,11 +40,14 @@ pub(crate) fn alpha() -> Name {
     }
 }
 
-/// The name of the second host.
-pub(crate) fn beta() -> Name {
-    match Name::read(b"beta") {
-        Ok(name) => name,
-        Err(_) => unreachable!(),
+fn empty_disks(alloc: Global) -> Disks<MemDisk>
+    ensures { (which : OneOf) → history_of_disk (disk_at which result) ≡ record { start = []; calls = [] } }
+{
+    Disks {
+        root: MemDisk::new(alloc),
+        first: MemDisk::new(alloc),
+        second: MemDisk::new(alloc),
+        spool: MemDisk::new(alloc),
     }
 }
 
@@ -47,24 +59,26 @@ fn formatted(alloc: Global) -> Result<Disks<MemDisk>, Trouble>
     Ok(disks)
 }
 
-fn formatted_of_two(alloc: Global, me: HostId) -> Result<Disks<MemDisk>, Trouble>
-    requires { me.0 < 2 }
-    ensures { IfOk result (λ disks. (which : OneOf) → IsQuiet (history_of_disk (disk_at which disks))) }
+fn set_one(disk: &mut MemDisk, call: u64, alone: bool)
+    ensures { history_of_disk disk.new ≡ history_of_disk disk.old }
 {
-    let mut disks = empty_disks(alloc);
-    format(alloc, &mut disks, me, &[alpha(), beta()])?;
-    Ok(disks)
+    if alone {
+        disk.fail_once(call);
+    } else {
+        disk.fuse(call);
+    }
 }
 
-// A call of a disk fails alone.
-fn fail_once(disks: &mut Disks<MemDisk>, which: Which, call: u64)
+// A boot makes four calls of the disk first, and none of the others.
+fn set_fuse(disks: &mut Disks<MemDisk>, fuse: Fuse)
     ensures { (disk : OneOf) → history_of_disk (disk_at disk disks.new) ≡ history_of_disk (disk_at disk disks.old) }
 {
+    let Fuse { which, call, alone } = fuse;
     match which {
-        Which::Root => disks.root.fail_once(call),
-        Which::First => disks.first.fail_once(call),
-        Which::Second => disks.second.fail_once(call),
-        Which::Spool => disks.spool.fail_once(call),
+        Which::Root => set_one(&mut disks.root, call, alone),
+        Which::First => set_one(&mut disks.first, call.saturating_add(4), alone),
+        Which::Second => set_one(&mut disks.second, call, alone),
+        Which::Spool => set_one(&mut disks.spool, call, alone),
     }
 }
 
@@ -101,17 +115,6 @@ fn serve_node(
     )
 }
 
-/// Whether a daemon made all its turns, as it is to.
-pub(crate) fn uses_its_turns(end: ServeEnd) -> Result<(), Trouble> {
-    match end {
-        ServeEnd::TurnsUsed => Ok(()),
-        ServeEnd::Memory(memory) => Err(Trouble::Memory(memory)),
-        ServeEnd::Shutdown => Err(Trouble::Unexpected("a daemon is shut down")),
-        ServeEnd::WireFault => Err(Trouble::Unexpected("a wire fails")),
-        ServeEnd::DiskFault => Err(Trouble::Unexpected("a disk fails")),
-    }
-}
-
 /// A host that is served.
 pub(crate) struct Host {
     node: Box<Node<MemDisk>>,
@@ -133,35 +136,13 @@ impl Host {
         Ok(Host { node })
     }
 
-    /// The host of a site of one, after its boot.
-    pub(crate) fn alone(alloc: Global) -> Result<Host, Trouble> {
-        let disks = formatted(alloc)?;
-        Host::of_disks(alloc, disks)
-    }
-
-    /// The same, and the call of this number of a disk behind the boot fails alone. A boot makes
-    /// four calls of the disk first, and none of the others.
-    pub(crate) fn failing_once(alloc: Global, which: Which, call: u64) -> Result<Host, Trouble> {
+    /// The host after its boot.
+    pub(crate) fn booted(alloc: Global, failing: Option<Fuse>) -> Result<Host, Trouble> {
         let mut disks = formatted(alloc)?;
-        let made = if which == Which::First { 4 } else { 0 };
-        fail_once(&mut disks, which, call.saturating_add(made));
-        Host::of_disks(alloc, disks)
-    }
-
-    /// A host of a site of two, after its boot.
-    pub(crate) fn of_two(alloc: Global, me: HostId) -> Result<Host, Trouble>
-        requires { me.0 < 2 }
-    {
-        let disks = formatted_of_two(alloc, me)?;
-        Host::of_disks(alloc, disks)
-    }
-
-    /// The call of this number of a disk fails, and each later one.
-    pub(crate) fn fuse(&mut self, fuse: Option<(Which, u64)>) {
-        match fuse {
-            Some((which, calls)) => self.node.fuse(which, calls),
-            None => {}
+        if let Some(call) = failing {
+            set_fuse(&mut disks, call);
         }
+        Host::of_disks(alloc, disks)
     }
 
     /// Whether a disk failed.
@@ -177,25 +158,19 @@ impl Host {
         serve_node(alloc, &mut self.node, outside, turns)
     }
 
-    /// The state that its disks tell.
-    pub(crate) fn state(&mut self, alloc: Global) -> Result<HostState, Trouble> {
+    // The state that its disks tell.
+    fn state(&mut self, alloc: Global) -> Result<HostState, Trouble> {
         match self.node.reread(alloc) {
             Ok(state) => Ok(state),
             Err(fault) => Err(fault.into()),
         }
     }
-}
 
-/// Adds the table of these states.
-pub(crate) fn put_table(
-    alloc: Global,
-    states: &[HostState],
-    out: &mut Vec<u8>,
-) -> Result<(), Trouble> {
-    if states.len() > 256 {
-        return Err(Trouble::Unexpected("a site has more than 256 hosts"));
+    /// Adds the table of the state that its disks tell.
+    pub(crate) fn put_table(&mut self, alloc: Global, out: &mut Vec<u8>) -> Result<(), Trouble> {
+        let states = [self.state(alloc)?];
+        let rows = Items::from_vec(table_of(alloc, &states)?);
+        print_seen(alloc, &Seen::Table(rows), &[alpha()], out)?;
+        Ok(())
     }
-    let rows = Items::from_vec(table_of(alloc, states)?);
-    print_seen(alloc, &Seen::Table(rows), &[alpha(), beta()], out)?;
-    Ok(())
 }

@@ -1,8 +1,8 @@
 //! A job from its submission to its output, in literal datagrams, as `docs/formats.md` has them.
 
-use crate::host::{Host, uses_its_turns};
-use crate::outside::{NONE, Outside, outside_of};
-use crate::text::{put, put_sent};
+use crate::day::serve_rounds;
+use crate::outside::{NONE, outside_of};
+use crate::text::{put, put_calls};
 use crate::trouble::Trouble;
 use std::alloc::Global;
 
@@ -28,16 +28,10 @@ const LIST: &[u8] = &[
 
 static DATAGRAMS: [&[u8]; 4] = [START, SUBMIT, ENDED, LIST];
 
-fn serve_all(alloc: Global, outside: &mut Outside) -> Result<(), Trouble> {
-    let mut host = Host::alone(alloc)?;
-    uses_its_turns(host.serve(alloc, outside, 4))
-}
-
 /// Prints what the daemon sends for literal datagrams.
 pub(crate) fn put_literal(alloc: Global, out: &mut Vec<u8>) -> Result<(), Trouble> {
     put(b"\n== literal datagrams\n", out)?;
     let mut outside = outside_of(alloc, &NONE, &DATAGRAMS)?;
-    serve_all(alloc, &mut outside)?;
-    put_sent(alloc, outside.wire.sent(), out)?;
-    Ok(())
+    serve_rounds(alloc, None, &[4], &mut outside, out)?;
+    put_calls(alloc, outside.wire.kept(), out)
 }

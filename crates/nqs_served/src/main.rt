@@ -1,7 +1,6 @@
-//! Serves days over an outside in memory, beside what their schedules say, and prints what was
-//! seen: `stdout` has what is to be seen, by hand. A host of a site of one serves a day, days on
-//! which a call of its outside or of a disk fails, and literal datagrams; two hosts hand a request
-//! over and stage its output back; shepherds and a client speak over a wire.
+//! Serves days over an outside in memory, and prints what was seen: `stdout` has what is to be
+//! seen, by hand. A host of a site of one serves a day, days on which a call of its outside or of a
+//! disk fails, and literal datagrams; shepherds and a client speak over a wire.
 #![tactic(auto)]
 
 mod coming;
@@ -10,18 +9,14 @@ mod day;
 mod days;
 mod host;
 mod literal;
-mod network;
 mod outside;
-mod parts;
 mod shepherds;
 mod text;
 mod told;
-mod transcript;
 mod trouble;
 
 use days::put_days;
 use literal::put_literal;
-use network::put_network;
 use shepherds::{put_client, put_shepherds};
 use std::alloc::Global;
 use std::io;
@@ -31,7 +26,6 @@ use trouble::Trouble;
 
 fn put_all(alloc: Global, out: &mut Vec<u8>) -> Result<(), Trouble> {
     put_days(alloc, out)?;
-    put_network(alloc, out)?;
     put_literal(alloc, out)?;
     put_shepherds(alloc, out)?;
     put_client(alloc, out)
@@ -46,7 +40,7 @@ fn main(rt: HostRuntime) -> ExitCode {
     match seen {
         Ok(()) => ExitCode::SUCCESS,
         Err(trouble) => {
-            let _ = eprintln!(rt; "{}", trouble.text());
+            let _ = eprintln!(rt; "{}", trouble.0);
             ExitCode::FAILURE
         }
     }

@@ -1,9 +1,9 @@
 //! What comes to a daemon, and the outside in memory that it is given.
 
 use crate::coming::{Ask, Coming, Ended, coming_of};
-use crate::datagrams::{put_acknowledgement, put_ask, put_ended, put_front};
+use crate::datagrams::{put_ask, put_ended};
 use crate::trouble::Trouble;
-use nqs_base::{Bytes, Items, ListOf, Memory};
+use nqs_base::{Bytes, Items, ListOf};
 use nqs_fakes::{Item, ListClock, MemLauncher, MemOutlet, MemPrinter, MemWire};
 use nqs_types::WorldEvent;
 use std::alloc::Global;
@@ -27,15 +27,13 @@ pub(crate) const NONE: Failing = Failing {
     files: &[],
 };
 
-/// What the daemon is given, and what it is to send back.
+/// What the daemon is given.
 pub(crate) struct Outside {
     pub wire: MemWire,
     pub launcher: MemLauncher,
     pub printer: MemPrinter,
     pub outlet: MemOutlet,
     pub clock: ListClock,
-    /// What each datagram to a client begins with that is to be sent, or an acknowledgement whole.
-    pub fronts: Items<Bytes>,
 }
 
 // Written out, so that an outside is let go by one call.
@@ -47,19 +45,17 @@ impl Drop for Outside {
             printer: _,
             outlet: _,
             clock: _,
-            fronts: _,
         } = self;
     }
 }
 
-/// What comes to a daemon.
+/// What comes to a daemon, the moments at which it is taken, and the calls that fail.
 pub(crate) struct Arrivals {
     alloc: Global,
     token: u64,
     now: u64,
     script: Items<Item>,
     moments: ListOf<u64>,
-    fronts: Items<Bytes>,
     receives: Vec<u64>,
     sends: Vec<u64>,
     launches: Vec<u64>,
@@ -76,7 +72,6 @@ impl Drop for Arrivals {
             now: _,
             script: _,
             moments: _,
-            fronts: _,
             receives: _,
             sends: _,
             launches: _,
@@ -87,15 +82,14 @@ impl Drop for Arrivals {
 }
 
 impl Arrivals {
-    /// Nothing comes, and no call fails. What is asked for first gets this token.
-    pub(crate) fn new(alloc: Global, token: u64) -> Arrivals {
+    /// Nothing comes, and no call fails.
+    fn new(alloc: Global) -> Arrivals {
         Arrivals {
             alloc,
-            token,
+            token: 0,
             now: 0,
             script: Items::new(alloc),
             moments: ListOf::new(alloc),
-            fronts: Items::new(alloc),
             receives: Vec::new(alloc),
             sends: Vec::new(alloc),
             launches: Vec::new(alloc),
@@ -104,8 +98,8 @@ impl Arrivals {
         }
     }
 
-    /// These calls fail too.
-    pub(crate) fn fail(&mut self, failing: &Failing) -> Result<(), Memory> {
+    // These calls fail too.
+    fn fail(&mut self, failing: &Failing) -> Result<(), Trouble> {
         self.receives.extend_from_slice(failing.receives)?;
         self.sends.extend_from_slice(failing.sends)?;
         self.launches.extend_from_slice(failing.launches)?;
@@ -114,111 +108,98 @@ impl Arrivals {
         Ok(())
     }
 
-    /// An event comes to the daemon: it is taken at this moment.
-    pub(crate) fn add_event(&mut self) -> Result<(), Memory> {
+    // An event is taken at this moment.
+    fn add_event(&mut self) -> Result<(), Trouble> {
         self.moments.push(self.now)?;
         Ok(())
     }
 
-    /// A receive brings this. What is sent for it begins so.
-    pub(crate) fn add_datagram(&mut self, datagram: Bytes, front: Bytes) -> Result<(), Memory> {
-        self.fronts.push(front)?;
-        self.script.push(Item::Datagram(datagram))?;
+    // A receive brings this.
+    fn add_item(&mut self, item: Item) -> Result<(), Trouble> {
+        self.script.push(item)?;
         self.add_event()
     }
 
-    /// A receive brings nothing.
-    pub(crate) fn add_quiet(&mut self) -> Result<(), Memory> {
-        self.script.push(Item::Quiet)?;
-        self.add_event()
+    // A receive brings a datagram, which is answered. What is asked for first has the token 0, and
+    // each further one that of the answer behind it.
+    fn add_datagram(&mut self, datagram: Vec<u8>) -> Result<(), Trouble> {
+        self.token = self.token.saturating_add(1);
+        self.add_item(Item::Datagram(Bytes::from_vec(datagram)))
     }
 
-    // The token is greater by the number of what was to be sent before.
     fn add_ask(&mut self, ask: Ask<'_>) -> Result<(), Trouble> {
-        let token = self.token.saturating_add(self.fronts.len() as u64);
         let mut datagram = Vec::new(self.alloc);
-        put_ask(ask, token, &mut datagram)?;
-        let mut front = Vec::new(self.alloc);
-        put_front(ask.host, token, &mut front)?;
-        self.add_datagram(Bytes::from_vec(datagram), Bytes::from_vec(front))?;
-        Ok(())
+        put_ask(ask, self.token, &mut datagram)?;
+        self.add_datagram(datagram)
     }
 
     fn add_ended(&mut self, ended: Ended<'_>) -> Result<(), Trouble> {
         let mut datagram = Vec::new(self.alloc);
         put_ended(ended, &mut datagram)?;
-        let mut front = Vec::new(self.alloc);
-        put_acknowledgement(ended, &mut front)?;
-        self.add_datagram(Bytes::from_vec(datagram), Bytes::from_vec(front))?;
-        Ok(())
+        self.add_datagram(datagram)
     }
 
-    /// What comes to the daemon by an event of a schedule.
-    pub(crate) fn add(&mut self, event: &WorldEvent) -> Result<(), Trouble> {
+    // What comes to the daemon by an event of a schedule.
+    fn add(&mut self, event: &WorldEvent) -> Result<(), Trouble> {
         match coming_of(event) {
             Coming::Ask(ask) => self.add_ask(ask),
             Coming::Ended(ended) => self.add_ended(ended),
-            Coming::Quiet(_) => Ok(self.add_quiet()?),
-            Coming::Back => Ok(self.add_event()?),
+            Coming::Quiet => self.add_item(Item::Quiet),
+            Coming::Back => self.add_event(),
             Coming::Moment(moment) => {
                 self.now = moment;
                 Ok(())
             }
-            _ => Ok(()),
+            Coming::Nothing => Ok(()),
         }
     }
 
-    // It gives the moments in order. There is one at least.
-    fn clock(&self) -> Result<ListClock, Trouble> {
-        let moments = self.moments.clone()?;
-        if moments.len() == 0 {
-            return Err(Trouble::Unexpected("a clock has no moment"));
+    // Where there are no bytes nothing comes.
+    fn add_bytes(&mut self, bytes: &[u8]) -> Result<(), Trouble> {
+        if bytes.is_empty() {
+            return self.add_item(Item::Quiet);
         }
-        Ok(ListClock::new(self.alloc, moments))
+        let datagram = Vec::from_slice(self.alloc, bytes)?;
+        self.add_datagram(datagram)
     }
 
-    fn with_clock(self, clock: ListClock) -> Outside {
+    // The outside to which this comes. Its clock gives the last moment once more.
+    fn into_outside(self) -> Result<Outside, Trouble> {
         let Arrivals {
             alloc,
             token: _,
-            now: _,
+            now,
             script,
-            moments: _,
-            fronts,
+            mut moments,
             receives,
             sends,
             launches,
             prints,
             files,
         } = self;
-        Outside {
+        moments.push(now)?;
+        Ok(Outside {
             wire: MemWire::new(alloc, script, receives, sends),
             launcher: MemLauncher::new(alloc, launches),
             printer: MemPrinter::new(alloc, prints),
             outlet: MemOutlet::new(alloc, files),
-            clock,
-            fronts,
-        }
-    }
-
-    /// The outside to which this comes.
-    pub(crate) fn into_outside(self) -> Result<Outside, Trouble> {
-        let clock = self.clock()?;
-        Ok(self.with_clock(clock))
+            clock: ListClock::new(alloc, moments),
+        })
     }
 }
 
-// Where there are no bytes nothing comes.
-fn fill(alloc: Global, comes: &[&[u8]], arrivals: &mut Arrivals) -> Result<(), Memory> {
-    for bytes in comes {
-        if bytes.is_empty() {
-            arrivals.add_quiet()?;
-        } else {
-            let datagram = Vec::from_slice(alloc, bytes)?;
-            arrivals.add_datagram(Bytes::from_vec(datagram), Bytes::new(alloc))?;
-        }
+/// The outside to which these events come.
+pub(crate) fn outside_of_events(
+    alloc: Global,
+    failing: &Failing,
+    events: &[WorldEvent],
+) -> Result<Outside, Trouble> {
+    let mut arrivals = Arrivals::new(alloc);
+    arrivals.fail(failing)?;
+    for event in events {
+        arrivals.add(event)?;
     }
-    Ok(())
+    arrivals.into_outside()
 }
 
 /// The outside to which these datagrams come. Where there are no bytes nothing comes.
@@ -227,8 +208,10 @@ pub(crate) fn outside_of(
     failing: &Failing,
     comes: &[&[u8]],
 ) -> Result<Outside, Trouble> {
-    let mut arrivals = Arrivals::new(alloc, 0);
+    let mut arrivals = Arrivals::new(alloc);
     arrivals.fail(failing)?;
-    fill(alloc, comes, &mut arrivals)?;
+    for bytes in comes {
+        arrivals.add_bytes(bytes)?;
+    }
     arrivals.into_outside()
 }

@@ -1,15 +1,22 @@
 //! A shepherd and a client over a wire whose calls fail, or that brings what is not for them.
 
-use crate::host::{alpha, beta};
+use crate::host::alpha;
 use crate::outside::{Failing, NONE, outside_of};
-use crate::text::{put, put_quoted, put_sent, put_text};
+use crate::text::{put, put_calls, put_quoted, put_text};
 use crate::trouble::Trouble;
-use nqs_base::{Bytes, Items, Memory};
+use nqs_base::{Bytes, Items, Name};
 use nqs_clients::{NqsStatus, ShepherdEnd, client, shepherd};
 use nqs_fakes::{MemRunner, MemWire};
 use nqs_outside::{MemSink, MemSource, RunEnd};
 use nqs_types::{HostId, RequestId};
 use std::alloc::Global;
+
+fn beta() -> Name {
+    match Name::read(b"beta") {
+        Ok(name) => name,
+        Err(_) => unreachable!(),
+    }
+}
 
 // The acknowledgement of the first start of the request 7 of host 1, and that of a request 7 of
 // host 0.
@@ -82,7 +89,7 @@ static ROWS: [Row; 6] = [
 ];
 
 // A job ends with status 3 and the output `42`.
-fn ends(alloc: Global) -> Result<Items<RunEnd>, Memory> {
+fn ends(alloc: Global) -> Result<Items<RunEnd>, Trouble> {
     let out = Vec::from_slice(alloc, b"42")?;
     let end = RunEnd {
         status: 3,
@@ -92,7 +99,7 @@ fn ends(alloc: Global) -> Result<Items<RunEnd>, Memory> {
     Ok(Items::of(alloc, end)?)
 }
 
-fn runner(alloc: Global, failing: &[u64]) -> Result<MemRunner, Memory> {
+fn runner(alloc: Global, failing: &[u64]) -> Result<MemRunner, Trouble> {
     let ends = ends(alloc)?;
     let failing = Vec::from_slice(alloc, failing)?;
     Ok(MemRunner::new(alloc, ends, failing))
@@ -113,14 +120,12 @@ fn words_of(end: ShepherdEnd) -> &'static str {
 }
 
 // What went over a wire.
-fn put_wire(alloc: Global, wire: &MemWire, out: &mut Vec<u8>) -> Result<(), Memory> {
-    let received = wire.received().len();
-    put_text(format!(in alloc; "received {received}\n"), out)?;
-    put_sent(alloc, wire.sent(), out)
+fn put_wire(alloc: Global, wire: &MemWire, out: &mut Vec<u8>) -> Result<(), Trouble> {
+    put_calls(alloc, wire.kept(), out)
 }
 
 // The shepherd of the first start of a job of host 1, whose request is of host 0.
-fn tend(alloc: Global, row: &Row, wire: &mut MemWire, out: &mut Vec<u8>) -> Result<(), Memory> {
+fn tend(alloc: Global, row: &Row, wire: &mut MemWire, out: &mut Vec<u8>) -> Result<(), Trouble> {
     let mut runner = runner(alloc, row.runs)?;
     let site = [alpha(), beta()];
     let end = words_of(shepherd(alloc, &site, HostId(0), JOB, 1, 9, &mut runner, wire));
@@ -133,8 +138,7 @@ fn put_row(alloc: Global, row: &Row, out: &mut Vec<u8>) -> Result<(), Trouble> {
     put_text(format!(in alloc; "\n== a shepherd: {}\n", row.title), out)?;
     let mut outside = outside_of(alloc, &row.failing, row.comes)?;
     tend(alloc, row, &mut outside.wire, out)?;
-    put_wire(alloc, &outside.wire, out)?;
-    Ok(())
+    put_wire(alloc, &outside.wire, out)
 }
 
 /// Prints what is seen of shepherds.
@@ -239,7 +243,7 @@ static ASKINGS: [Asking; 10] = [
     },
 ];
 
-fn words_in(alloc: Global, list: &[&str]) -> Result<Vec<String>, Memory> {
+fn words_in(alloc: Global, list: &[&str]) -> Result<Vec<String>, Trouble> {
     let mut words = Vec::new(alloc);
     for word in list {
         words.push(word.to_string(alloc)?)?;
@@ -248,7 +252,7 @@ fn words_in(alloc: Global, list: &[&str]) -> Result<Vec<String>, Memory> {
 }
 
 // A script of one line.
-fn script_of(alloc: Global, asking: &Asking) -> Result<MemSource, Memory> {
+fn script_of(alloc: Global, asking: &Asking) -> Result<MemSource, Trouble> {
     let script = Vec::from_slice(alloc, b"date\n")?;
     let fails = Vec::from_slice(alloc, asking.reads)?;
     Ok(MemSource::new(script, fails))
@@ -260,7 +264,7 @@ fn ask(
     asking: &Asking,
     wire: &mut MemWire,
     sink: &mut MemSink,
-) -> Result<NqsStatus, Memory> {
+) -> Result<NqsStatus, Trouble> {
     let words = words_in(alloc, asking.words)?;
     let mut input = script_of(alloc, asking)?;
     let site = [alpha(), beta()];
@@ -272,7 +276,7 @@ fn put_asked(
     asking: &Asking,
     wire: &mut MemWire,
     out: &mut Vec<u8>,
-) -> Result<(), Memory> {
+) -> Result<(), Trouble> {
     let fails = Vec::from_slice(alloc, asking.writes)?;
     let mut sink = MemSink::new(alloc, asking.piece, fails);
     let status = ask(alloc, asking, wire, &mut sink)?.number();
@@ -285,8 +289,7 @@ fn put_asking(alloc: Global, asking: &Asking, out: &mut Vec<u8>) -> Result<(), T
     put_text(format!(in alloc; "\n== a client: {}\n", asking.title), out)?;
     let mut outside = outside_of(alloc, &asking.failing, &ANSWERS)?;
     put_asked(alloc, asking, &mut outside.wire, out)?;
-    put_wire(alloc, &outside.wire, out)?;
-    Ok(())
+    put_wire(alloc, &outside.wire, out)
 }
 
 /// Prints what is seen of clients that get three answers, of which the last is their own.

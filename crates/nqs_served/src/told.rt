@@ -2,197 +2,112 @@
 
 use crate::datagrams::text_of;
 use crate::outside::Outside;
-use crate::parts::Parts;
-use crate::text::{name_of, put, put_each, put_numbers, put_quoted, put_text};
-use nqs_base::{Bytes, Memory};
-use nqs_fakes::{FileWritten, LauncherCall, Printed, Sent};
+use crate::text::{put, put_datagram, put_quoted, put_text};
+use crate::trouble::Trouble;
+use nqs_base::Bytes;
+use nqs_fakes::{FileWritten, Kept, LauncherCall, Printed};
 use nqs_outside::Address;
-use nqs_types::{HostId, RequestId};
+use nqs_types::RequestId;
 use std::alloc::Global;
 
-// The kinds of datagrams between hosts, from 1 on.
-static KINDS: [&str; 9] = [
-    "OFFER", "READY", "REFUSED", "COMMIT", "DONE", "INQUIRE", "ABORT", "STAGE", "STAGED",
-];
-
-// What is sent otherwise than it is to be: a line that no part has else.
-fn add_wrong(alloc: Global, datagram: &[u8], parts: &mut Parts) -> Result<(), Memory> {
-    put(b"wrong:", &mut parts.bodies)?;
-    put_numbers(alloc, datagram, &mut parts.bodies)
-}
-
-// What is sent to a client or to a shepherd, which is to begin so.
-fn add_answer(
+// The text of an answer, or else the datagram, byte by byte.
+fn put_answer(
     alloc: Global,
-    port: u16,
-    datagram: &[u8],
-    front: &[u8],
-    parts: &mut Parts,
-) -> Result<(), Memory> {
-    if port == 10 && datagram == front {
-        return put(b"acknowledgement\n", &mut parts.bodies);
-    }
-    if port == 9 && front.starts_with(&[1, 11]) {
-        if let Some(text) = text_of(datagram, front) {
-            return put(text, &mut parts.replies);
-        }
-    }
-    add_wrong(alloc, datagram, parts)
-}
-
-// The kind, the sender, the receiver and the number of a datagram between hosts, where the number
-// is below 256.
-fn header_of(datagram: &[u8]) -> Option<(&'static str, HostId, HostId, u8)> {
-    let kind = *datagram.get(1)?;
-    let from = *datagram.get(2)?;
-    let to = *datagram.get(3)?;
-    let number = *datagram.get(11)?;
-    if !datagram.starts_with(&[1, kind, from, to, 0, 0, 0, 0, 0, 0, 0, number]) {
-        return None;
-    }
-    let kind = *KINDS.get(usize::from(kind.wrapping_sub(1)))?;
-    Some((kind, HostId(from), HostId(to), number))
-}
-
-// It is to go where it says.
-fn add_packet(
-    alloc: Global,
-    address: HostId,
-    datagram: &Bytes,
-    parts: &mut Parts,
-) -> Result<(), Memory> {
-    parts.datagrams.push(datagram.clone()?)?;
-    let packet = parts.datagrams.len();
-    match header_of(datagram.as_slice()) {
-        Some((kind, from, to, number)) if to == address => {
-            let (from, to) = (name_of(from), name_of(to));
-            let line = format!(in alloc; "packet {packet} {from} {to} {kind} {number}\n");
-            put_text(line, &mut parts.packets)
-        }
-        _ => add_wrong(alloc, datagram.as_slice(), parts),
+    to: Address,
+    bytes: &Bytes,
+    token: u64,
+    out: &mut Vec<u8>,
+) -> Result<(), Trouble> {
+    let text = match to {
+        Address::Client(9) => text_of(bytes.as_slice(), token),
+        _ => None,
+    };
+    match text {
+        Some(text) => put(text, out),
+        None => put_datagram(alloc, to, bytes, out),
     }
 }
 
-// The fronts are those of what goes to clients and shepherds, in order.
-fn add_sent(
-    alloc: Global,
-    sent: &[Sent],
-    fronts: &[Bytes],
-    parts: &mut Parts,
-) -> Result<(), Memory> {
-    let mut fronts = fronts.iter();
-    for sent in sent {
-        match sent.to {
-            Address::Host(host) => add_packet(alloc, host, &sent.bytes, parts)?,
-            Address::Client(port) => {
-                let front = match fronts.next() {
-                    Some(front) => front.as_slice(),
-                    None => b"",
-                };
-                add_answer(alloc, port, sent.bytes.as_slice(), front, parts)?;
-            }
+// What is asked for first has the token 0, and each further one that of the answer behind it.
+fn put_answers(alloc: Global, calls: &[Kept], out: &mut Vec<u8>) -> Result<(), Trouble> {
+    let mut token = 0u64;
+    for call in calls {
+        if let Kept::Outbound(to, bytes) = call {
+            put_answer(alloc, *to, bytes, token, out)?;
+            token = token.saturating_add(1);
         }
     }
     Ok(())
 }
 
-// A word, a host, a request and a start.
+// A word, and the start of a request of the host 0.
 fn put_start(
     alloc: Global,
     word: &str,
-    host: HostId,
     id: RequestId,
     start: u16,
     out: &mut Vec<u8>,
-) -> Result<(), Memory> {
-    let (host, of) = (name_of(host), name_of(id.host));
+) -> Result<(), Trouble> {
+    let host = if id.host.0 == 0 {
+        "alpha"
+    } else {
+        "another host"
+    };
     put_text(
-        format!(in alloc; "{word} {host} {}.{of} {start}", id.seq),
+        format!(in alloc; "{word} alpha {}.{host} {start}", id.seq),
         out,
     )
 }
 
-// A word, bytes, and whether the call failed.
-fn put_body(word: &[u8], bytes: &[u8], ok: bool, out: &mut Vec<u8>) -> Result<(), Memory> {
-    put(word, out)?;
-    put_quoted(bytes, out)?;
+fn put_line_end(ok: bool, out: &mut Vec<u8>) -> Result<(), Trouble> {
     put(if ok { b"\n".as_slice() } else { b" failed\n" }, out)
 }
 
-fn add_job(
-    alloc: Global,
-    host: HostId,
-    call: &LauncherCall,
-    parts: &mut Parts,
-) -> Result<(), Memory> {
+// Bytes in quotes, behind a space, and whether the call failed.
+fn put_body(bytes: &Bytes, ok: bool, out: &mut Vec<u8>) -> Result<(), Trouble> {
+    put(b" ", out)?;
+    put_quoted(bytes.as_slice(), out)?;
+    put_line_end(ok, out)
+}
+
+fn put_job(alloc: Global, call: &LauncherCall, out: &mut Vec<u8>) -> Result<(), Trouble> {
     match call {
         LauncherCall::Launch { order, script, ok } => {
-            put_start(
-                alloc,
-                "launch",
-                host,
-                order.id,
-                order.start,
-                &mut parts.jobs,
-            )?;
-            put_body(b"script ", script.as_slice(), *ok, &mut parts.bodies)?;
+            put_start(alloc, "launch", order.id, order.start, out)?;
+            put_body(script, *ok, out)
         }
-        LauncherCall::Kill { id, start, .. } => {
-            put_start(alloc, "kill", host, *id, *start, &mut parts.jobs)?;
+        LauncherCall::Kill { id, start, ok } => {
+            put_start(alloc, "kill", *id, *start, out)?;
+            put_line_end(*ok, out)
         }
     }
-    put(b"\n", &mut parts.jobs)
 }
 
-fn add_print(
-    alloc: Global,
-    host: HostId,
-    print: &Printed,
-    parts: &mut Parts,
-) -> Result<(), Memory> {
+fn put_print(alloc: Global, print: &Printed, out: &mut Vec<u8>) -> Result<(), Trouble> {
     let order = &print.order;
-    put_start(
-        alloc,
-        "print",
-        host,
-        order.id,
-        order.start,
-        &mut parts.prints,
-    )?;
-    put_each(&[b" ", print.device.as_bytes(), b"\n"], &mut parts.prints)?;
-    put_body(
-        b"print ",
-        print.bytes.as_slice(),
-        print.ok,
-        &mut parts.bodies,
-    )
+    put_start(alloc, "print", order.id, order.start, out)?;
+    put(b" ", out)?;
+    put(print.device.as_bytes(), out)?;
+    put_body(&print.bytes, print.ok, out)
 }
 
-fn add_file(alloc: Global, file: &FileWritten, parts: &mut Parts) -> Result<(), Memory> {
-    put(file.path.as_slice(), &mut parts.files)?;
-    put_text(
-        format!(in alloc; " {}\n", file.bytes.len()),
-        &mut parts.files,
-    )?;
-    put_body(b"file ", file.bytes.as_slice(), file.ok, &mut parts.bodies)
+fn put_file(file: &FileWritten, out: &mut Vec<u8>) -> Result<(), Trouble> {
+    put(b"write ", out)?;
+    put(file.path.as_slice(), out)?;
+    put_body(&file.bytes, file.ok, out)
 }
 
-/// Adds what the daemon of a host asked of its outside.
-pub(crate) fn tell(
-    alloc: Global,
-    host: HostId,
-    outside: &Outside,
-    parts: &mut Parts,
-) -> Result<(), Memory> {
-    add_sent(alloc, outside.wire.sent(), outside.fronts.as_slice(), parts)?;
+/// Prints what the daemon asked of its outside: answers, jobs, prints and files.
+pub(crate) fn put_told(alloc: Global, outside: &Outside, out: &mut Vec<u8>) -> Result<(), Trouble> {
+    put_answers(alloc, outside.wire.kept(), out)?;
     for call in outside.launcher.kept() {
-        add_job(alloc, host, call, parts)?;
+        put_job(alloc, call, out)?;
     }
     for print in outside.printer.kept() {
-        add_print(alloc, host, print, parts)?;
+        put_print(alloc, print, out)?;
     }
     for file in outside.outlet.kept() {
-        add_file(alloc, file, parts)?;
+        put_file(file, out)?;
     }
     Ok(())
 }

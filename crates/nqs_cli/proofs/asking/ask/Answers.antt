@@ -33,7 +33,7 @@ returns-clause-parts g c =
         now,
         refl,
         subst (λ (w : List (List ℕ)). client.Ends c.args.site.now w port (fed g.S.Source.left g.S.Source.faults c.args.input.now c.client-status.new.input)
-            (wired g.M.W.Wire.received g.M.W.Wire.sent g.M.W.Wire.receive_faults g.M.W.Wire.send_faults c.in-Ok-wire.wire c.client-status.new.wire)
+            (wired g.M.W.Wire.traffic g.M.W.Wire.receive_faults g.M.W.Wire.send_faults c.in-Ok-wire.wire c.client-status.new.wire)
             (sunk g.K.Sink.taken g.K.Sink.faults g.K.Sink.stalls c.args.out.now c.client-status.new.out) c.client-status.result)
             (ap (map (λ s. string_bytes s)) c.deref.ensures.value ∙ c.in-Ok.ensures) c.client-status.ensures,
       ),

@@ -19,12 +19,12 @@ returns-in-None-clause-parts g c = (
 
 pub returns-in-Some-clause-parts : goal.returns-in-Some-clause-parts
 returns-in-Some-clause-parts g c =
-    let did = c.run_at.ensures.parts in (
+    let did = c.run_here.ensures.parts in (
       did.0,
       did.1,
       did.2,
       subst (λ (h : Option HostId). RunsAt g.M.D.Disk.tells c.args.dir.now c.args.site.now h c.args.form
-          (map (λ s. string_bytes s) c.args.words.now) (fed g.S.Source.left g.S.Source.faults c.args.input.now c.run_at.new.input)
-          (sunk g.K.Sink.taken g.K.Sink.faults g.K.Sink.stalls c.args.out.now c.run_at.new.out) (g.M.Machine.told c.args.machine.now).faults
-          (g.M.Machine.told c.run_at.new.machine).faults did.0 c.run_at.result) c.in-Some.ensures.host did.3,
+          (map (λ s. string_bytes s) c.args.words.now) (fed g.S.Source.left g.S.Source.faults c.args.input.now c.run_here.new.input)
+          (sunk g.K.Sink.taken g.K.Sink.faults g.K.Sink.stalls c.args.out.now c.run_here.new.out) (g.M.Machine.told c.args.machine.now).faults
+          (g.M.Machine.told c.run_here.new.machine).faults did.0 c.run_here.result) c.in-Some.ensures.host did.3,
     )

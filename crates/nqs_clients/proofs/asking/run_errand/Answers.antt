@@ -7,4 +7,4 @@ pub returns-in-Err-TooLong : goal.returns-in-Err-TooLong
 unfolding digits
 returns-in-Err-TooLong g c =
     let taken = rw c.in-Err-TooLong.field-0-is at c.in-Err-TooLong.ensures in
-    refused _ c.args.errand _ _ _ c.write_answer.result (taken.0, taken.1, (refl, refl, refl, refl)) c.write_answer.ensures
+    refused _ c.args.errand _ _ _ c.write_answer.result (taken.0, taken.1, (refl, (refl, refl))) c.write_answer.ensures

@@ -1,0 +1,191 @@
+//! What the real machine tells its operator on standard error, beside what jobs have to say: that a
+//! host starts and ends, why its disks aren't served, and which part of the machine can't be had.
+
+use nqs_base::Name;
+use nqs_real::{SiteHost, lock_holder, tell, tell_boot, tell_part};
+use nqs_serve::ServeEnd;
+use nqs_state::HostState;
+use nqs_store::LoadFault;
+use nqs_types::{HostId, Output, Which};
+use std::io;
+use std::io::ErrorKind;
+use std::rt::HostRuntime;
+
+/// Where the headers of both forms of a journal say their version.
+const VERSIONS: [u64; 2] = [13, 14];
+
+/// How long such a header is, in bytes.
+const HEADER: u64 = 16;
+
+// The name of the file that is this disk.
+fn disk_text(which: Which) -> &'static str {
+    match which {
+        Which::Root => "root",
+        Which::First => "first",
+        Which::Second => "second",
+        Which::Spool => "spool",
+    }
+}
+
+fn name_text(name: Option<&Name>) -> &str {
+    match name {
+        Some(name) => str::from_utf8(name.as_bytes()).unwrap_or("?"),
+        None => "?",
+    }
+}
+
+// What is wrong with the bytes of a disk from this place on.
+fn bytes_text(which: Which, place: u64) -> &'static str {
+    match which {
+        Which::Spool => "what its host keeps there isn't all there, or lies twice over another",
+        _ if VERSIONS.contains(&place) => "it is of another version of nqs",
+        _ if place < HEADER => "it is no journal of nqs",
+        _ => "it is damaged there, or a newer version of nqs has written it",
+    }
+}
+
+fn not_nqs(rt: &HostRuntime, which: Which, place: u64) -> io::Result<()> {
+    let text = bytes_text(which, place);
+    let disk = disk_text(which);
+    tell(
+        rt,
+        &format!(in rt.alloc(); "its disks aren't served: {disk}, byte {place}: {text}")?,
+    );
+    Ok(())
+}
+
+fn disk_failed(rt: &HostRuntime, which: Which) -> io::Result<()> {
+    let disk = disk_text(which);
+    tell(
+        rt,
+        &format!(in rt.alloc(); "its disk {disk} failed while it was read")?,
+    );
+    Ok(())
+}
+
+/// Says why disks can't be loaded. Want of memory has its status.
+pub(crate) fn tell_fault(rt: &HostRuntime, fault: &LoadFault) {
+    let _ = match fault {
+        LoadFault::NotNqs(which, place) => not_nqs(rt, *which, *place),
+        LoadFault::Disk(which) => disk_failed(rt, *which),
+        LoadFault::Memory(_) => Ok(()),
+    };
+}
+
+/// Says that a disk isn't there, where another one has bytes.
+pub(crate) fn tell_missing(rt: &HostRuntime, folder: &str, which: Which) -> io::Result<()> {
+    let disk = disk_text(which);
+    let text = format!(in rt.alloc();
+        "{folder}/{disk} is missing, and others of the host's disks have bytes"
+    )?;
+    tell(rt, &text);
+    Ok(())
+}
+
+// The names of hosts, each behind a space.
+fn names_text(rt: &HostRuntime, names: &[Name]) -> io::Result<String> {
+    let mut text = String::new(rt.alloc());
+    for name in names {
+        text.push_str(" ")?;
+        text.push_str(name_text(Some(name)))?;
+    }
+    Ok(text)
+}
+
+/// Says whose disks were found in the place of those of a host.
+pub(crate) fn tell_others(
+    rt: &HostRuntime,
+    me: HostId,
+    names: &[Name],
+    state: &HostState,
+) -> io::Result<()> {
+    let own = name_text(names.get(me.0 as usize));
+    let found = name_text(state.site.as_slice().get(state.me.0 as usize));
+    let site = names_text(rt, state.site.as_slice())?;
+    let file = names_text(rt, names)?;
+    let text = format!(in rt.alloc();
+        "the disks of {own} are those of {found} of the site{site}; the file site has{file}"
+    )?;
+    tell(rt, &text);
+    Ok(())
+}
+
+/// Says that a host starts, how many requests it has, and what its boot said.
+pub(crate) fn tell_start(rt: &HostRuntime, state: &HostState, said: &[Output]) -> io::Result<()> {
+    let names = state.site.as_slice();
+    let host = name_text(names.get(state.me.0 as usize));
+    let count = state.rows.len();
+    let text = format!(in rt.alloc(); "{host} starts over disks of version 1, requests: {count}")?;
+    tell(rt, &text);
+    tell_boot(rt, names, said);
+    Ok(())
+}
+
+fn end_text(end: &ServeEnd) -> &'static str {
+    match end {
+        ServeEnd::Shutdown => "was shut down",
+        ServeEnd::TurnsUsed => "ends: its turns are used up",
+        ServeEnd::WireFault => "ends: its socket failed",
+        ServeEnd::DiskFault => "ends: a disk failed, or is full",
+        ServeEnd::Memory(_) => "ends: memory ran out",
+    }
+}
+
+/// Says how a host has ended.
+pub(crate) fn tell_end(rt: &HostRuntime, state: &HostState, end: &ServeEnd) -> io::Result<()> {
+    let host = name_text(state.site.as_slice().get(state.me.0 as usize));
+    let what = end_text(end);
+    tell(rt, &format!(in rt.alloc(); "{host} {what}")?);
+    Ok(())
+}
+
+/// Says that a host's lock can't be had: where another process has it, which one.
+pub(crate) fn tell_lock(rt: &HostRuntime, folder: &str, cause: &io::Error) -> io::Result<()> {
+    if cause.kind() != ErrorKind::WouldBlock {
+        tell_part(rt, &format!(in rt.alloc(); "{folder}/lock")?, cause);
+        return Ok(());
+    }
+    let text = match lock_holder(rt, folder) {
+        Some(process) => format!(in rt.alloc(); "{folder}/lock is held by process {process}")?,
+        None => format!(in rt.alloc(); "{folder}/lock is held by another process")?,
+    };
+    tell(rt, &text);
+    Ok(())
+}
+
+/// Says that a host's socket can't be had.
+pub(crate) fn tell_port(
+    rt: &HostRuntime,
+    site: &[SiteHost],
+    host: HostId,
+    cause: &io::Error,
+) -> io::Result<()> {
+    if let Some(own) = site.get(host.0 as usize) {
+        let what = format!(in rt.alloc(); "port {} of {}", own.port, own.address)?;
+        tell_part(rt, &what, cause);
+    }
+    Ok(())
+}
+
+/// Says which line of a site's file is wrong.
+pub(crate) fn tell_line(rt: &HostRuntime, dir: &str, line: u64) -> io::Result<()> {
+    tell(
+        rt,
+        &format!(in rt.alloc(); "{dir}/site: line {line} is wrong")?,
+    );
+    Ok(())
+}
+
+/// Says that the file of a site can't be read.
+pub(crate) fn tell_site(rt: &HostRuntime, dir: &str, cause: &io::Error) -> io::Result<()> {
+    tell_part(rt, &format!(in rt.alloc(); "{dir}/site")?, cause);
+    Ok(())
+}
+
+/// Says that the launcher of a host can't be had.
+pub(crate) fn tell_launcher(rt: &HostRuntime, cause: &io::Error) {
+    match cause.kind() {
+        ErrorKind::TimedOut => tell(rt, "processes of earlier jobs can't be ended"),
+        _ => tell_part(rt, "the launcher of jobs", cause),
+    }
+}

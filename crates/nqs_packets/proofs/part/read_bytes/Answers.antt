@@ -1,0 +1,10 @@
+use Rattle.std.proofs.Common.{Err, ap, ◌∙◌}
+use Rattle.std.proofs.lemmas.Result.{err_from_is_err_and}
+use Rattle.nqs_records.specs.declared.fault.RecordFault.{RecordFault}
+use Rattle.nqs_packets.proofs.NoMemory.{number_wants_none}
+use Rattle.nqs_packets.proofs.part.read_bytes.Goals as goal
+
+pub returns-in_err-length-clause-there : goal.returns-in_err-length-clause-there
+returns-in_err-length-clause-there c =
+    let p = err_from_is_err_and c.from_residual.result c.from_residual.ensures.1 in
+    number_wants_none c.args.bytes.now c.args.place _ p.0 c.from_residual.result _ (ap (λ (f : RecordFault). Err f) p.2 ∙ c.in_err-length.ensures) p.1
