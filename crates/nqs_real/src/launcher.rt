@@ -8,7 +8,7 @@ use crate::counted::counted;
 use crate::folder::{host_text, jobs_path, make_folder, path_in, request_text};
 use crate::kept::{KeptOrder, note_kill};
 use crate::leftovers::{end_jobs, tell_left};
-use crate::notices::{tell_failed, tell_kept};
+use crate::notices::{tell_failed, tell_kept, tell_launched};
 use crate::order::order_text;
 use crate::shortage::is_shortage;
 use crate::site::SiteHost;
@@ -190,6 +190,7 @@ impl ShepherdLauncher {
     fn note(&mut self, child: Child, job: LaunchedJob) -> io::Result<()>
         ensures { self.new.faults ≡ self.old.faults }
     {
+        tell_launched(&self.rt, &job.request, &job.start);
         self.shepherds
             .push(Shepherd { child, job })
             .map_err(AllocError::from)?;

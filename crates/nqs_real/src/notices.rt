@@ -92,6 +92,13 @@ pub(crate) fn tell_kept(rt: &HostRuntime, request: &str, cause: &io::Error) {
     }
 }
 
+/// Says of a request that the job of this start was launched.
+pub(crate) fn tell_launched(rt: &HostRuntime, request: &str, start: &str) {
+    if let Ok(text) = format!(in rt.alloc(); "{request} is launched, start {start}") {
+        tell(rt, &text);
+    }
+}
+
 fn tell_request(rt: &HostRuntime, names: &[Name], id: RequestId, what: &str) -> io::Result<()> {
     let Some(name) = names.get(id.host.0 as usize) else {
         return Err(io::Error::from(ErrorKind::InvalidInput));
