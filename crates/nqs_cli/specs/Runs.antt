@@ -16,7 +16,7 @@ use Rattle.nqs_outside.specs.Causes.{Rose}
 use Rattle.nqs_outside.specs.Streams.{Fed, Sunk, IsUnread}
 use Rattle.nqs_clients.specs.Client as client
 use Rattle.nqs_clients.specs.Errand.{place_of}
-use Rattle.nqs_clients.specs.Shepherd.{Shepherds}
+use Rattle.nqs_clients.specs.Shepherd.{EndsWith, Shepherds}
 use Rattle.nqs_clients.specs.Sides.{Wired, IsUnwritten}
 use Rattle.nqs_clients.specs.declared.shepherding.ShepherdEnd.{ShepherdEnd}
 use Rattle.nqs_clients.specs.declared.shepherding.ShepherdEnd.TheVariants as shepherd
@@ -133,8 +133,7 @@ shepherd_parts at port runs told = runner_of at.dir at.me runs ∷ wire_of at.di
 abbrev pub DoesShepherd : Place → RequestId → ℕ → Parts → NqsStatus → Type 0
 DoesShepherd at id start parts status = (port : ℕ) × (runs runs_now : Option (List Job)) × (was now : WireTold) × (end : ShepherdEnd)
     × (parts ≡ lent_and_back (shepherd_parts at port runs was) (shepherd_parts at port runs_now now)) × (status ≡ status_of_shepherd end)
-    × Shepherds at.me port id start runs runs_now was.traffic now.traffic end
-    × (end ≡ shepherd.WireFault → Rose was.receive_faults now.receive_faults)
+    × Shepherds at.me port id start runs runs_now was.traffic now.traffic end × EndsWith was.receive_faults now.receive_faults end
 
 -- a shepherd did so, where the request that was named may be one of the site
 abbrev pub Tends : Place → Option RequestId → ℕ → Parts → NqsStatus → Type 0

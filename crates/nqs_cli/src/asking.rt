@@ -4,9 +4,8 @@ ghost use Rattle.std.specs.Prelude.{◌≡◌, ◌⊎◌, ◌≤◌, ◌∷◌, 
 ghost use Rattle.nqs_rules.specs.Sane.{is_of_site, is_sane_id};
 ghost use Rattle.nqs_outside.specs.Asked.{Job};
 ghost use Rattle.nqs_outside.specs.Told.{Extends};
-ghost use Rattle.nqs_outside.specs.Causes.{Rose};
 ghost use Rattle.nqs_outside.specs.Streams.{fed, sunk};
-ghost use Rattle.nqs_clients.specs.Shepherd.{Shepherds};
+ghost use Rattle.nqs_clients.specs.Shepherd.{EndsWith, Shepherds};
 ghost use Rattle.nqs_cli.specs.Parts.{WireTold, wire_of, wire_back};
 ghost use Rattle.nqs_cli.specs.Runs.{Parts as Lists, IsWanting, IsUntouched, DoesClient, DoesShepherd, shepherd_parts, status_of_shepherd, without_dir};
 ghost use Rattle.nqs_cli.specs.Runs.{no_parts, BreaksOff};
@@ -108,7 +107,7 @@ fn with_runner<M: Machine>(
         × Extends (M.told machine.old).lent (M.told machine.new).lent (wire_of dir.now None port was ∷ [])
         × Extends (M.told machine.old).back (M.told machine.new).back (wire_back now ∷ []) × (result ≡ status_of_shepherd end)
         × Shepherds host port id start (M.R.runs runner.old) (M.R.runs runner.new) was.traffic now.traffic end
-        × (end ≡ ShepherdEnd.WireFault → Rose was.receive_faults now.receive_faults))
+        × EndsWith was.receive_faults now.receive_faults end)
         ⊎ (IsWanting (M.told machine.old).faults (M.told machine.new).faults result × (M.R.runs runner.new ≡ M.R.runs runner.old)
         × Extends (M.told machine.old).lent (M.told machine.new).lent [] × Extends (M.told machine.old).back (M.told machine.new).back []) }
     ensures later { (M.told machine.old).faults ≤ (M.told machine.new).faults }

@@ -8,7 +8,7 @@ use Rattle.nqs_network_runs.specs.declared.status.Status.{Status}
 use Rattle.nqs_network_runs.specs.declared.status.Status.TheVariants as status
 use Rattle.nqs_network_runs.specs.declared.words.Generation.{Generation}
 use Rattle.nqs_network_runs.specs.declared.words.Ask.{Ask}
-use Rattle.nqs_network_runs.specs.declared.words.Unparsed.{Unparsed}
+use Rattle.nqs_network_runs.specs.declared.unparsed.Unparsed.{Unparsed}
 use Rattle.nqs_network_runs.specs.Words.{asked}
 use Rattle.nqs_network_runs.specs.Running.{text_of, bad_line_text, Runs, Reports}
 use Rattle.nqs_network_runs.specs.Replay.{Left, Plays, Reads, EndsRead, EndsBy, Ends}

@@ -8,4 +8,5 @@ pub mod replay;
 mod report;
 mod run;
 pub mod status;
+mod unparsed;
 mod words;

@@ -1,6 +1,6 @@
 //! How a run of the program ends.
 
-use crate::words::Unparsed;
+use crate::unparsed::Unparsed;
 use nqs_base::Memory;
 use nqs_disk::Full;
 
@@ -9,7 +9,7 @@ use nqs_disk::Full;
 /// They are decided in this order: words, reading, length, schedule, writing. `Memory` may come at
 /// any place, and `DiskFull` in a run. The text is the transcript of the run, or its summary; disks
 /// are left at `Done` alone.
-#[derive(PartialEq, Eq, Drop)]
+#[derive(Drop)]
 pub enum Status {
     /// The schedule was read to its end, or generated, and run, and the whole text was written.
     Done,

@@ -8,6 +8,7 @@ ghost use Rattle.nqs_words.specs.Values.{number_of};
 ghost use Rattle.nqs_network_runs.specs.Words.{bare_app, replay_app, option_rule, flag_rule, generated, generation_of, is_true, asked_of, ReadsWords, StopsBy};
 ghost use Rattle.nqs_network_runs.specs.Words.{GivenBy};
 
+use crate::unparsed::Unparsed;
 use clap::error::ErrorKind;
 use clap::{Arg, ArgAction, ArgMatches, Command, Error};
 use nqs_base::Memory;
@@ -31,13 +32,6 @@ pub struct Ask {
     pub summary: bool,
     /// None: the schedule is read.
     pub generation: Option<Generation>,
-}
-
-/// `clap` was refused an allocation while it read the words: made of an error of `clap` that says
-/// so, and of nothing else.
-#[derive(PartialEq, Eq, Drop)]
-pub struct Unparsed {
-    refused: (),
 }
 
 /// Why the words ask for nothing.
@@ -156,11 +150,11 @@ fn given_by(matches: &ArgMatches) -> Result<Ask, WordsStop>
 }
 
 // What an error of `clap` says of the words.
-fn stop_of(error: &Error) -> WordsStop
-    ensures { StopsBy (kind_of error.now) result }
+fn stop_of(error: Error) -> WordsStop
+    ensures { StopsBy (kind_of error) result }
 {
     match error.kind() {
-        ErrorKind::OutOfMemory => WordsStop::Unparsed(Unparsed { refused: () }),
+        ErrorKind::OutOfMemory => WordsStop::Unparsed(Unparsed::of_error(error)),
         _ => WordsStop::BadWords,
     }
 }
@@ -173,7 +167,7 @@ pub(crate) fn read_words(alloc: Global, words: &[String]) -> Result<Ask, WordsSt
         Err(refused) => Err(WordsStop::Memory(refused.into())),
         Ok(command) => match command.try_get_matches_from(words) {
             Ok(matches) => given_by(&matches),
-            Err(error) => Err(stop_of(&error)),
+            Err(error) => Err(stop_of(error)),
         },
     }
 }

@@ -41,8 +41,9 @@ const NOT_RUN: u8 = 127;
 /// The status of a job that SIGKILL ended.
 const KILLED: u8 = 137;
 
-/// Reads the script as `sh FILE` does, with no rights for others on the files that it makes.
-const SHELL: &str = "umask 077; . \"$0\"";
+/// Reads the script as `sh FILE` does, with no rights for others on the files that it makes. Where
+/// the system wants memory it ends the job before the daemon.
+const SHELL: &str = "{ echo 500 >/proc/self/oom_score_adj; } 2>/dev/null; umask 077; . \"$0\"";
 
 /// What the error output says of a job whose shepherd ended before it.
 const LOST: &str = "nqs: the job's shepherd was lost, and what was left of the job was ended\n";

@@ -1,9 +1,11 @@
-//! The texts of reasons, and of the answers of destinations. Want of memory leaves a front of one.
+//! The texts of reasons, and of the answers of destinations. Want of memory leaves a front of one
+//! behind what was there.
 
-ghost use Rattle.std.specs.Prelude.{◌≡◌, ◌++◌, codes, OnOk};
+ghost use Rattle.std.specs.Prelude.{◌≡◌, ◌++◌, codes, OnOk, OnErr};
 ghost use Rattle.std.specs.Fmt.{decimal};
 ghost use Rattle.std.specs.Option.{option_copied};
 ghost use Rattle.nqs_rules.specs.Why.{when_text, limit_text, forms_text, next_text, reason_text, answer_text};
+ghost use Rattle.nqs_put.specs.Puts.{IsFrontPut};
 
 use nqs_base::{Memory, Name};
 use nqs_moments::{PrintFault, print_moment};
@@ -13,7 +15,8 @@ use std::alloc::Global;
 
 // A moment as its date, and past the last day that has one as its seconds since 1970.
 fn put_when(alloc: Global, moment: u64, out: &mut Vec<u8>) -> Result<(), Memory>
-    ensures { OnOk result (out.new.items ≡ out.old.items ++ when_text moment) }
+    ensures put { OnOk result (out.new.items ≡ out.old.items ++ when_text moment) }
+    ensures front { OnErr result (IsFrontPut out.old.items (when_text moment) out.new.items) }
 {
     match print_moment(alloc, moment, out) {
         Ok(()) => Ok(()),
@@ -24,7 +27,8 @@ fn put_when(alloc: Global, moment: u64, out: &mut Vec<u8>) -> Result<(), Memory>
 
 // A moment behind a text.
 fn put_moment(alloc: Global, before: &[u8], moment: u64, out: &mut Vec<u8>) -> Result<(), Memory>
-    ensures { OnOk result (out.new.items ≡ out.old.items ++ (before.now ++ when_text moment)) }
+    ensures put { OnOk result (out.new.items ≡ out.old.items ++ (before.now ++ when_text moment)) }
+    ensures front { OnErr result (IsFrontPut out.old.items (before.now ++ when_text moment) out.new.items) }
 {
     put_text(before, out)?;
     put_when(alloc, moment, out)
@@ -38,7 +42,8 @@ pub(crate) fn put_count(
     after: &[u8],
     out: &mut Vec<u8>,
 ) -> Result<(), Memory>
-    ensures { OnOk result (out.new.items ≡ out.old.items ++ (before.now ++ decimal number ++ after.now)) }
+    ensures put { OnOk result (out.new.items ≡ out.old.items ++ (before.now ++ decimal number ++ after.now)) }
+    ensures front { OnErr result (IsFrontPut out.old.items (before.now ++ decimal number ++ after.now) out.new.items) }
 {
     put_text(before, out)?;
     put_decimal(alloc, number, out)?;
@@ -53,7 +58,8 @@ fn put_limit(
     name: &Name,
     out: &mut Vec<u8>,
 ) -> Result<(), Memory>
-    ensures { OnOk result (out.new.items ≡ out.old.items ++ limit_text before.now limit of.now name.now) }
+    ensures put { OnOk result (out.new.items ≡ out.old.items ++ limit_text before.now limit of.now name.now) }
+    ensures front { OnErr result (IsFrontPut out.old.items (limit_text before.now limit of.now name.now) out.new.items) }
 {
     put_text(before, out)?;
     put_decimal(alloc, limit, out)?;
@@ -61,7 +67,8 @@ fn put_limit(
 }
 
 fn put_forms(forms: Option<&Name>, out: &mut Vec<u8>) -> Result<(), Memory>
-    ensures { OnOk result (out.new.items ≡ out.old.items ++ forms_text (option_copied forms.entry)) }
+    ensures put { OnOk result (out.new.items ≡ out.old.items ++ forms_text (option_copied forms.entry)) }
+    ensures front { OnErr result (IsFrontPut out.old.items (forms_text (option_copied forms.entry)) out.new.items) }
 {
     match forms {
         Some(forms) => put_about(b" with forms ", forms, b"", out),
@@ -70,8 +77,10 @@ fn put_forms(forms: Option<&Name>, out: &mut Vec<u8>) -> Result<(), Memory>
 }
 
 fn put_no_device(queue: &Name, forms: Option<&Name>, out: &mut Vec<u8>) -> Result<(), Memory>
-    ensures { let forms = forms_text (option_copied forms.entry) in
+    ensures put { let forms = forms_text (option_copied forms.entry) in
         OnOk result (out.new.items ≡ out.old.items ++ (codes "no device of queue " ++ queue.now ++ forms ++ codes " is free")) }
+    ensures front { let forms = forms_text (option_copied forms.entry) in
+        OnErr result (IsFrontPut out.old.items (codes "no device of queue " ++ queue.now ++ forms ++ codes " is free") out.new.items) }
 {
     put_about(b"no device of queue ", queue, b"", out)?;
     put_forms(forms, out)?;
@@ -79,7 +88,8 @@ fn put_no_device(queue: &Name, forms: Option<&Name>, out: &mut Vec<u8>) -> Resul
 }
 
 fn put_next(alloc: Global, queue: &Name, count: u64, out: &mut Vec<u8>) -> Result<(), Memory>
-    ensures { OnOk result (out.new.items ≡ out.old.items ++ next_text queue.now count) }
+    ensures put { OnOk result (out.new.items ≡ out.old.items ++ next_text queue.now count) }
+    ensures front { OnErr result (IsFrontPut out.old.items (next_text queue.now count) out.new.items) }
 {
     if count == 0 {
         return put_about(b"it is next in queue ", queue, b"", out);
@@ -104,7 +114,8 @@ pub fn put_reason(
     reason: &Reason,
     out: &mut Vec<u8>,
 ) -> Result<(), Memory>
-    ensures { OnOk result (out.new.items ≡ out.old.items ++ reason_text queue.now reason.now) }
+    ensures put { OnOk result (out.new.items ≡ out.old.items ++ reason_text queue.now reason.now) }
+    ensures front { OnErr result (IsFrontPut out.old.items (reason_text queue.now reason.now) out.new.items) }
 {
     match reason {
         Reason::Runs => put_text(b"it runs", out),
@@ -144,7 +155,8 @@ pub fn put_reason(
 /// Appends the text of a destination's answer: `refused with number 19`.
 /// A moment is as in the text of a reason.
 pub fn put_answer(alloc: Global, answer: &DestAnswer, out: &mut Vec<u8>) -> Result<(), Memory>
-    ensures { OnOk result (out.new.items ≡ out.old.items ++ answer_text answer.now) }
+    ensures put { OnOk result (out.new.items ≡ out.old.items ++ answer_text answer.now) }
+    ensures front { OnErr result (IsFrontPut out.old.items (answer_text answer.now) out.new.items) }
 {
     match answer {
         DestAnswer::Refused(number) => {

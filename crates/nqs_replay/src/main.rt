@@ -59,7 +59,7 @@ fn words_of(rt: &HostRuntime) -> Result<Vec<String>, Status> {
 fn exit_code(rt: &HostRuntime, status: Status) -> ExitCode
     ensures { exit_status result ≡ number_of status }
 {
-    if status == Status::BadWords {
+    if matches!(status, Status::BadWords) {
         let _ = rt.eprintln(USAGE);
     }
     ExitCode::from(status.number())

@@ -8,13 +8,13 @@ use Rattle.std.specs.declared.option.Option.{Option}
 use Rattle.std.specs.declared.option.Option.TheVariants.{Some}
 use Rattle.nqs_state.specs.State.{Plain}
 use Rattle.nqs_types.specs.declared.event.Event.{Event}
-use Rattle.nqs_outside.specs.Asked.{Arrival, Packet, Asked, Print, Filing}
+use Rattle.nqs_outside.specs.Asked.{Arrival, Traffic, inbound, Asked, Print, Filing}
 use Rattle.nqs_outside.specs.Told.{Extends}
 use Rattle.nqs_outside.proofs.Told.{extends_none, extends_then, extends_same}
 use Rattle.nqs_serve.specs.Events.{Here, event_in, stops_by}
 use Rattle.nqs_serve.specs.Steps.{after_event, outputs}
 use Rattle.nqs_serve.specs.Runs.{Act, received, took, Turn, turn, idle, Outcome, outputs_in, brought_back, event_back, come_back, next, after, IsRun}
-use Rattle.nqs_serve.specs.Runs.{arrivals_of, moments_of, outcomes_of, arrivals, moments, packets, packets_by, asked, asked_by, prints, prints_by}
+use Rattle.nqs_serve.specs.Runs.{arrivals_of, moments_of, outcomes_of, arrivals, moments, sends, traffic_by, traffic, asked, asked_by, prints, prints_by}
 use Rattle.nqs_serve.specs.Runs.{filings, filings_by, Telling, telling, Begun, none_begun, begun, carried, Grew, Ran}
 use Rattle.nqs_serve.specs.Ends.{stop_of, stops}
 use Rattle.nqs_serve.specs.declared.comeback.Comeback.{Comeback}
@@ -61,8 +61,7 @@ of_moments xs ys more = of_acts moments_of xs ys more
 module _ (here : Here) where
   pub grew_none : (t : Telling) → Grew here [] none_begun t t
   grew_none t = record {
-    received = extends_none t.received;
-    sent = extends_none t.sent;
+    traffic = extends_none t.traffic;
     asked = extends_none t.asked;
     prints = extends_none t.prints;
     filings = extends_none t.filings;
@@ -71,11 +70,10 @@ module _ (here : Here) where
 
   pub grew_then : (xs ys : List Act) (more : Begun) (a b c : Telling) → Grew here xs none_begun a b → Grew here ys more b c → Grew here (xs ++ ys) more a c
   grew_then xs ys more a b c one two = record {
-    received = extends_same a.received c.received (arrivals xs ++ arrivals ys) (arrivals (xs ++ ys)) (sym (arrivals_append xs ys))
-        (extends_then a.received b.received c.received (arrivals xs) (arrivals ys) one.received two.received);
-    sent = extends_same a.sent c.sent (packets here (carried xs none_begun) ++ packets here (carried ys more)) (packets here (carried (xs ++ ys) more))
-        (of_carried (λ (o : Outcome). packets_by here o.output) xs ys more)
-        (extends_then a.sent b.sent c.sent (packets here (carried xs none_begun)) (packets here (carried ys more)) one.sent two.sent);
+    traffic = extends_same a.traffic c.traffic ((traffic here xs ++ []) ++ (traffic here ys ++ sends here more.outcomes))
+        (traffic here (xs ++ ys) ++ sends here more.outcomes)
+        (of_acts (traffic_by here) xs ys (sends here more.outcomes))
+        (extends_then a.traffic b.traffic c.traffic (traffic here xs ++ []) (traffic here ys ++ sends here more.outcomes) one.traffic two.traffic);
     asked = extends_same a.asked c.asked (asked (carried xs none_begun) ++ asked (carried ys more)) (asked (carried (xs ++ ys) more))
         (of_carried (λ (o : Outcome). asked_by o.output o.ok) xs ys more)
         (extends_then a.asked b.asked c.asked (asked (carried xs none_begun)) (asked (carried ys more)) one.asked two.asked);
@@ -124,12 +122,11 @@ pub ran_cut : (here : Here) (t : Turn) (more : Begun) (was now : Telling) → Gr
 ran_cut here t more was now grew = record { run = tt; leads = refl; grew = grew }
 
 -- the clock was read, and nothing else was asked
-pub clock_grew : (here : Here) (r : Option (List Arrival)) (s : Option (List Packet)) (a : Option (List Asked)) (p : Option (List Print))
-    (f : Option (List Filing)) (c0 c1 : Option (List ℕ)) (m : ℕ)
-    → Extends c0 c1 (m ∷ []) → Grew here [] (begun m []) (telling r s a p f c0) (telling r s a p f c1)
-clock_grew here r s a p f c0 c1 m given = record {
-  received = extends_none r;
-  sent = extends_none s;
+pub clock_grew : (here : Here) (t : Option (List Traffic)) (a : Option (List Asked)) (p : Option (List Print)) (f : Option (List Filing))
+    (c0 c1 : Option (List ℕ)) (m : ℕ)
+    → Extends c0 c1 (m ∷ []) → Grew here [] (begun m []) (telling t a p f c0) (telling t a p f c1)
+clock_grew here t a p f c0 c1 m given = record {
+  traffic = extends_none t;
   asked = extends_none a;
   prints = extends_none p;
   filings = extends_none f;
@@ -137,23 +134,23 @@ clock_grew here r s a p f c0 c1 m given = record {
 }
 
 -- the clock was read, and these were carried out
-pub cut_grew : (here : Here) (m : ℕ) (os : List Outcome) (was now : Telling) → Extends was.received now.received []
-    → Extends was.sent now.sent (packets here os) → Extends was.asked now.asked (asked os)
+pub cut_grew : (here : Here) (m : ℕ) (os : List Outcome) (was now : Telling)
+    → Extends was.traffic now.traffic (sends here os) → Extends was.asked now.asked (asked os)
     → Extends was.prints now.prints (prints os) → Extends was.filings now.filings (filings os) → Extends was.given now.given (m ∷ [])
     → Grew here [] (begun m os) was now
-cut_grew here m os was now r s a p f c = record { received = r; sent = s; asked = a; prints = p; filings = f; given = c }
+cut_grew here m os was now t a p f c = record { traffic = t; asked = a; prints = p; filings = f; given = c }
 
 -- the same of a list of outcomes, and of the act that has them
 alone : {A : Type 0} (f : Outcome → List A) (os : List Outcome) → flat_map f os ≡ flat_map f ((os ++ []) ++ [])
 alone f os = ap (flat_map f) (sym (append-nil os) ∙ sym (append-nil (os ++ [])))
 
-pub took_grew : (here : Here) (m : ℕ) (os : List Outcome) (was now : Telling) → Extends was.received now.received []
-    → Extends was.sent now.sent (packets here os) → Extends was.asked now.asked (asked os)
+pub took_grew : (here : Here) (m : ℕ) (os : List Outcome) (was now : Telling)
+    → Extends was.traffic now.traffic (sends here os) → Extends was.asked now.asked (asked os)
     → Extends was.prints now.prints (prints os) → Extends was.filings now.filings (filings os) → Extends was.given now.given (m ∷ [])
     → Grew here (took m os ∷ []) none_begun was now
-took_grew here m os was now r s a p f c = record {
-  received = r;
-  sent = extends_same was.sent now.sent (packets here os) (packets here ((os ++ []) ++ [])) (alone (λ (o : Outcome). packets_by here o.output) os) s;
+took_grew here m os was now t a p f c = record {
+  traffic = extends_same was.traffic now.traffic (sends here os) ((sends here os ++ []) ++ [])
+      (sym (append-nil (sends here os)) ∙ sym (append-nil (sends here os ++ []))) t;
   asked = extends_same was.asked now.asked (asked os) (asked ((os ++ []) ++ [])) (alone (λ (o : Outcome). asked_by o.output o.ok) os) a;
   prints = extends_same was.prints now.prints (prints os) (prints ((os ++ []) ++ [])) (alone (λ (o : Outcome). prints_by o.output o.ok) os) p;
   filings = extends_same was.filings now.filings (filings os) (filings ((os ++ []) ++ [])) (alone (λ (o : Outcome). filings_by o.output o.ok) os) f;
@@ -190,26 +187,25 @@ cut_back here acts start u e x queue rest m os a b c split is ran grew =
     (ran_cut here (turn u (e ∷ map event_back rest)) (begun m os) b c grew)
 
 -- a receive asks nothing else, nor does what is done at a quiet one
-pub tended_grew : (here : Here) (arrival : Arrival) (r0 r1 : Option (List Arrival)) (s0 s1 : Option (List Packet)) (a0 a1 : Option (List Asked))
+pub tended_grew : (here : Here) (arrival : Arrival) (t0 t1 : Option (List Traffic)) (a0 a1 : Option (List Asked))
     (p : Option (List Print)) (f : Option (List Filing)) (c : Option (List ℕ))
-    → Extends r0 r1 (arrival ∷ []) → Extends s0 s1 [] → Extends a0 a1 []
-    → Grew here (received arrival ∷ []) none_begun (telling r0 s0 a0 p f c) (telling r1 s1 a1 p f c)
-tended_grew here arrival r0 r1 s0 s1 a0 a1 p f c came sent tended =
-    record { received = came; sent = sent; asked = tended; prints = extends_none p; filings = extends_none f; given = extends_none c }
+    → Extends t0 t1 (inbound arrival ∷ []) → Extends a0 a1 []
+    → Grew here (received arrival ∷ []) none_begun (telling t0 a0 p f c) (telling t1 a1 p f c)
+tended_grew here arrival t0 t1 a0 a1 p f c came tended =
+    record { traffic = came; asked = tended; prints = extends_none p; filings = extends_none f; given = extends_none c }
 
 -- a receive asks nothing else
-pub received_grew : (here : Here) (arrival : Arrival) (r0 r1 : Option (List Arrival)) (s0 s1 : Option (List Packet)) (a : Option (List Asked))
+pub received_grew : (here : Here) (arrival : Arrival) (t0 t1 : Option (List Traffic)) (a : Option (List Asked))
     (p : Option (List Print)) (f : Option (List Filing)) (c : Option (List ℕ))
-    → Extends r0 r1 (arrival ∷ []) → Extends s0 s1 [] → Grew here (received arrival ∷ []) none_begun (telling r0 s0 a p f c) (telling r1 s1 a p f c)
-received_grew here arrival r0 r1 s0 s1 a p f c came sent =
-    tended_grew here arrival r0 r1 s0 s1 a a p f c came sent (extends_none a)
+    → Extends t0 t1 (inbound arrival ∷ []) → Grew here (received arrival ∷ []) none_begun (telling t0 a p f c) (telling t1 a p f c)
+received_grew here arrival t0 t1 a p f c came = tended_grew here arrival t0 t1 a a p f c came (extends_none a)
 
 -- a receive that failed
-pub missed_grew : (here : Here) (r0 r1 : Option (List Arrival)) (s0 s1 : Option (List Packet)) (a : Option (List Asked)) (p : Option (List Print))
+pub missed_grew : (here : Here) (t0 t1 : Option (List Traffic)) (a : Option (List Asked)) (p : Option (List Print))
     (f : Option (List Filing)) (c : Option (List ℕ))
-    → Extends r0 r1 [] → Extends s0 s1 [] → Grew here [] none_begun (telling r0 s0 a p f c) (telling r1 s1 a p f c)
-missed_grew here r0 r1 s0 s1 a p f c lost sent =
-    record { received = lost; sent = sent; asked = extends_none a; prints = extends_none p; filings = extends_none f; given = extends_none c }
+    → Extends t0 t1 [] → Grew here [] none_begun (telling t0 a p f c) (telling t1 a p f c)
+missed_grew here t0 t1 a p f c lost =
+    record { traffic = lost; asked = extends_none a; prints = extends_none p; filings = extends_none f; given = extends_none c }
 
 -- a receive, its event, and those that come back of it
 pub ran_turn : (here : Here) (arrival : Arrival) (m : ℕ) (os : List Outcome) (acts : List Act) (s : Plain) (e : Event) (old back : List Comeback) (v : Turn)

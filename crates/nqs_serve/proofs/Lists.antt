@@ -4,18 +4,19 @@ use Rattle.std.proofs.Common.{false}
 use Rattle.std.proofs.Common.{Option, arith}
 use Rattle.std.specs.List.{flat_map}
 use Rattle.std.specs.Option.{option_to_list}
-use Rattle.std.proofs.lemmas.List.{append-nil, get_or-map, length-map, take_more}
+use Rattle.std.proofs.lemmas.List.{append-nil, get_or-map, length-map, map-append, take_more}
 use Rattle.std.proofs.Math.Seq.{take-length, take-append_seam}
 use Rattle.std.proofs.lemmas.List.Elements.{filter-append}
 use Rattle.std.proofs.lemmas.Grind.{flat_map-append}
 use Rattle.nqs_types.specs.declared.event.Output.{Output}
 use Rattle.nqs_types.specs.declared.event.Output.TheVariants as out
+use Rattle.nqs_outside.specs.Asked.{Traffic, outbound}
 use Rattle.nqs_outside.specs.Told.{Extends}
 use Rattle.nqs_outside.proofs.Told.{extends_then, extends_same}
 use Rattle.nqs_back.specs.Back.{brings_back, comebacks}
 use Rattle.nqs_serve.specs.Events.{Here}
 use Rattle.nqs_serve.specs.Letters.{letter_of, AreReady}
-use Rattle.nqs_serve.specs.Runs.{Outcome, comeback_of}
+use Rattle.nqs_serve.specs.Runs.{Outcome, packets, packets_by, sends, comeback_of}
 use Rattle.nqs_serve.specs.declared.letter.Letter.{Letter}
 
 -- one outcome more, in a list of what outcomes ask
@@ -27,6 +28,15 @@ pub told_more : {A : Type 0} (f : Outcome → List A) (os : List Outcome) (o : O
     → Extends mid now (f o) → Extends was now (flat_map f (os ++ o ∷ []))
 told_more f os o was mid now first second = extends_same was now (flat_map f os ++ f o) (flat_map f (os ++ o ∷ [])) (one_more f os o)
     (extends_then was mid now (flat_map f os) (f o) first second)
+
+-- the same of what is sent
+pub sent_more : (here : Here) (os : List Outcome) (o : Outcome) (was mid now : Option (List Traffic)) → Extends was mid (sends here os)
+    → Extends mid now (map outbound (packets_by here o.output)) → Extends was now (sends here (os ++ o ∷ []))
+sent_more here os o was mid now first second =
+    extends_same was now (sends here os ++ map outbound (packets_by here o.output)) (sends here (os ++ o ∷ []))
+    (sym (map-append outbound (packets here os) (packets_by here o.output))
+    ∙ ap (map outbound) (one_more (λ (x : Outcome). packets_by here x.output) os o))
+    (extends_then was mid now (sends here os) (map outbound (packets_by here o.output)) first second)
 
 pub comebacks_append : (xs ys : List Output) → comebacks (xs ++ ys) ≡ comebacks xs + comebacks ys
 comebacks_append xs ys = ap (λ (l : List Output). length l) (filter-append brings_back xs ys) ∙ length-append (filter brings_back xs) (filter brings_back ys)

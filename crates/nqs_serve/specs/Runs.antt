@@ -11,7 +11,7 @@ use Rattle.nqs_types.specs.declared.event.Event.TheVariants as event
 use Rattle.nqs_types.specs.declared.event.Output.{Output}
 use Rattle.nqs_types.specs.declared.event.Output.TheVariants as out
 use Rattle.nqs_outside.specs.Told.{Extends}
-use Rattle.nqs_outside.specs.Asked.{Arrival, Packet, Asked, launched, killed, Print, printed, Filing, filed}
+use Rattle.nqs_outside.specs.Asked.{Arrival, Packet, Traffic, inbound, outbound, Asked, launched, killed, Print, printed, Filing, filed}
 use Rattle.nqs_serve.specs.Events.{Here, event_in}
 use Rattle.nqs_serve.specs.Letters.{letter_of, packets_in}
 use Rattle.nqs_serve.specs.Steps.{after_event, outputs}
@@ -94,6 +94,10 @@ outputs_in outcomes = map (λ (o : Outcome). o.output) outcomes
 abbrev pub packets : Here → List Outcome → List Packet
 packets here outcomes = flat_map (λ (o : Outcome). packets_by here o.output) outcomes
 
+-- the datagrams, as they pass the wire
+abbrev pub sends : Here → List Outcome → List Traffic
+sends here outcomes = map outbound (packets here outcomes)
+
 -- launches and kills
 abbrev pub asked : List Outcome → List Asked
 asked outcomes = flat_map (λ (o : Outcome). asked_by o.output o.ok) outcomes
@@ -164,6 +168,11 @@ abbrev pub outcomes_of : Act → List Outcome
 outcomes_of (received arrival) = []
 outcomes_of (took m outcomes) = outcomes
 
+-- what passed the wire: what a receive brought, or the datagrams of what was carried out
+abbrev pub traffic_by : Here → Act → List Traffic
+traffic_by here (received arrival) = inbound arrival ∷ []
+traffic_by here (took m outcomes) = sends here outcomes
+
 -- all that was received
 abbrev pub arrivals : List Act → List Arrival
 arrivals acts = flat_map arrivals_of acts
@@ -176,19 +185,21 @@ moments acts = flat_map moments_of acts
 abbrev pub outcomes : List Act → List Outcome
 outcomes acts = flat_map outcomes_of acts
 
+-- all that passed the wire, in the order of the acts
+abbrev pub traffic : Here → List Act → List Traffic
+traffic here acts = flat_map (traffic_by here) acts
+
 -- what the outside tells of what it was asked, where it tells it
 pub record Telling : Type 0 where
-  pub received : Option (List Arrival)
-  pub sent : Option (List Packet)
+  pub traffic : Option (List Traffic)
   pub asked : Option (List Asked)
   pub prints : Option (List Print)
   pub filings : Option (List Filing)
   pub given : Option (List ℕ)
 
--- what the wire tells of receives and sends, then what the launcher, the printer, the outlet and
--- the clock tell
-abbrev pub telling : Option (List Arrival) → Option (List Packet) → Option (List Asked) → Option (List Print) → Option (List Filing) → Option (List ℕ) → Telling
-telling r s a p f c = record { received = r; sent = s; asked = a; prints = p; filings = f; given = c }
+-- what the wire, the launcher, the printer, the outlet and the clock tell
+abbrev pub telling : Option (List Traffic) → Option (List Asked) → Option (List Print) → Option (List Filing) → Option (List ℕ) → Telling
+telling t a p f c = record { traffic = t; asked = a; prints = p; filings = f; given = c }
 
 -- what was done of an event that was cut off: the moment at which it was to be taken, and what of
 -- it was carried out
@@ -209,10 +220,9 @@ abbrev pub carried : List Act → Begun → List Outcome
 carried acts more = outcomes acts ++ more.outcomes
 
 -- What the outside tells grew by just what these acts, and then an event that was cut off, ask of
--- it.
+-- it; over the wire act by act, so what goes out of an event does before the next receive.
 pub record Grew (here : Here) (acts : List Act) (more : Begun) (was now : Telling) : Type 0 where
-  pub received : Extends was.received now.received (arrivals acts)
-  pub sent : Extends was.sent now.sent (packets here (carried acts more))
+  pub traffic : Extends was.traffic now.traffic (traffic here acts ++ sends here more.outcomes)
   pub asked : Extends was.asked now.asked (asked (carried acts more))
   pub prints : Extends was.prints now.prints (prints (carried acts more))
   pub filings : Extends was.filings now.filings (filings (carried acts more))

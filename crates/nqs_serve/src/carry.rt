@@ -3,11 +3,12 @@
 ghost use Rattle.std.specs.Prelude.{◌≡◌, ◌≤◌, ◌+◌, ◌∷◌, ◌++◌, [], List, map, length};
 ghost use Rattle.std.specs.VecDeque.{deque_capacity};
 ghost use Rattle.std.specs.Option.{option_to_list};
+ghost use Rattle.nqs_outside.specs.Asked.{outbound};
 ghost use Rattle.nqs_outside.specs.Told.{Extends};
 ghost use Rattle.nqs_back.specs.Back.{comebacks};
 ghost use Rattle.nqs_serve.specs.Events.{Here};
 ghost use Rattle.nqs_serve.specs.Letters.{letter_of, packets_in};
-ghost use Rattle.nqs_serve.specs.Runs.{Outcome, asked_by, prints_by, filings_by, comeback_of, outputs_in, packets, asked, prints, filings, brought_back};
+ghost use Rattle.nqs_serve.specs.Runs.{Outcome, asked_by, prints_by, filings_by, comeback_of, outputs_in, sends, asked, prints, filings, brought_back};
 
 use crate::comeback::{Comeback, comeback_of};
 use crate::letter::Letter;
@@ -17,9 +18,8 @@ use std::collections::VecDeque;
 
 // Sends a datagram, if there is one. A failed send is a loss.
 fn send<W: Wire>(wire: &mut W, letter: &Option<Letter>)
-    ensures sent { Extends (W.sent wire.old) (W.sent wire.new) (packets_in letter.now) }
-    ensures received { Extends (W.received wire.old) (W.received wire.new) [] }
-    ensures later { W.receive_faults wire.old ≤ W.receive_faults wire.new }
+    ensures traffic { Extends (W.traffic wire.old) (W.traffic wire.new) (map outbound (packets_in letter.now)) }
+    ensures heard { W.receive_faults wire.new ≡ W.receive_faults wire.old }
 {
     if let Some(letter) = letter {
         let _ = wire.send(letter.to, letter.bytes.as_slice());
@@ -81,9 +81,8 @@ fn carry_one<W: Wire, L: Launcher, P: Printer, O: Outlet>(
     back: &mut VecDeque<Comeback>,
 ) -> bool
     requires { length back.old.items + 1 ≤ deque_capacity back.old }
-    ensures sent { Extends (W.sent wire.old) (W.sent wire.new) (packets_in letter.now) }
-    ensures received { Extends (W.received wire.old) (W.received wire.new) [] }
-    ensures later { W.receive_faults wire.old ≤ W.receive_faults wire.new }
+    ensures traffic { Extends (W.traffic wire.old) (W.traffic wire.new) (map outbound (packets_in letter.now)) }
+    ensures heard { W.receive_faults wire.new ≡ W.receive_faults wire.old }
     ensures asked { Extends (L.asked launcher.old) (L.asked launcher.new) (asked_by output.now result) }
     ensures prints { Extends (P.prints printer.old) (P.prints printer.new) (prints_by output.now result) }
     ensures filings { Extends (O.filings outlet.old) (O.filings outlet.new) (filings_by output.now result) }
@@ -112,13 +111,12 @@ pub(crate) fn carry<W: Wire, L: Launcher, P: Printer, O: Outlet>(
     requires many { length letters.now ≡ length outputs.now }
     ensures carried { (here : Here) → letters.now ≡ map (letter_of here) outputs.now → (outcomes : List Outcome) × (outputs_in outcomes ≡ outputs.now)
         × (back.new.items ≡ back.old.items ++ brought_back outcomes)
-        × Extends (W.sent wire.old) (W.sent wire.new) (packets here outcomes)
+        × Extends (W.traffic wire.old) (W.traffic wire.new) (sends here outcomes)
         × Extends (L.asked launcher.old) (L.asked launcher.new) (asked outcomes)
         × Extends (P.prints printer.old) (P.prints printer.new) (prints outcomes)
         × Extends (O.filings outlet.old) (O.filings outlet.new) (filings outcomes) }
     ensures few { length back.new.items ≤ length back.old.items + comebacks outputs.now }
-    ensures received { Extends (W.received wire.old) (W.received wire.new) [] }
-    ensures later { W.receive_faults wire.old ≤ W.receive_faults wire.new }
+    ensures heard { W.receive_faults wire.new ≡ W.receive_faults wire.old }
 {
     for place in 0..outputs.len() {
         carry_one(

@@ -1,6 +1,6 @@
 //! The daemon's loop.
 
-ghost use Rattle.std.specs.Prelude.{◌≡◌, ◌≤◌, ◌∷◌, [], false, List, IsTrue, IfOk, IfErr, IsErrOf};
+ghost use Rattle.std.specs.Prelude.{◌≡◌, ◌≢◌, ◌<◌, ◌∷◌, [], false, length, List, IsTrue, IfOk, IfErr, IsErrOf};
 ghost use Rattle.nqs_state.specs.State.{Plain};
 ghost use Rattle.nqs_types.specs.declared.world.Which.{Which};
 ghost use Rattle.nqs_outside.specs.Causes.{Rose};
@@ -105,22 +105,24 @@ fn turn<D: Disk, W: Wire, L: Launcher, P: Printer, O: Outlet, C: Clock>(
     requires sound { IsSoundHost (content_of node.old) }
     requires running { is_stopped node.old ≡ false }
     requires host { IsHost me }
+    requires room { 49_152 < length room.old.buf.items }
     ensures leaves { Leaves node.old node.new Fault.Disk result }
     ensures ok { (s : Plain) (here : Here) → Knows node.old s → here ≡ record { me = me; site = (content_of node.old).site }
         → IfOk result (λ stop. (acts : List Act) × (u : Plain) × Knows node.new u × (stops here (idle s) acts ≡ stop ∷ [])
         × Ran here acts (idle s) (idle u) none_begun
-        (telling (W.received wire.old) (W.sent wire.old) (L.asked launcher.old) (P.prints printer.old) (O.filings outlet.old) (C.given clock.old))
-        (telling (W.received wire.new) (W.sent wire.new) (L.asked launcher.new) (P.prints printer.new) (O.filings outlet.new) (C.given clock.new))
+        (telling (W.traffic wire.old) (L.asked launcher.old) (P.prints printer.old) (O.filings outlet.old) (C.given clock.old))
+        (telling (W.traffic wire.new) (L.asked launcher.new) (P.prints printer.new) (O.filings outlet.new) (C.given clock.new))
         × TellsTo (active_of node.old) (active_of node.new) (history_of node.old) (history_of node.new) (IsPassed here (idle s) acts [])) }
     ensures err { (s : Plain) (here : Here) → Knows node.old s → here ≡ record { me = me; site = (content_of node.old).site }
         → IfErr result (λ fault. (acts : List Act) × (t : Turn) × (more : Begun)
         × Ran here acts (idle s) t more
-        (telling (W.received wire.old) (W.sent wire.old) (L.asked launcher.old) (P.prints printer.old) (O.filings outlet.old) (C.given clock.old))
-        (telling (W.received wire.new) (W.sent wire.new) (L.asked launcher.new) (P.prints printer.new) (O.filings outlet.new) (C.given clock.new))
+        (telling (W.traffic wire.old) (L.asked launcher.old) (P.prints printer.old) (O.filings outlet.old) (C.given clock.old))
+        (telling (W.traffic wire.new) (L.asked launcher.new) (P.prints printer.new) (O.filings outlet.new) (C.given clock.new))
         × Ends (end_of fault) 1 (stops here (idle s) acts) t more node.new
         × TellsThroughout (active_of node.old) (history_of node.old) (history_of node.new) (IsPassed here (idle s) acts more.moments)) }
     ensures wire_fault { IsErrOf result Fault.Wire → Rose (W.receive_faults wire.old) (W.receive_faults wire.new) }
-    ensures wire { W.receive_faults wire.old ≤ W.receive_faults wire.new }
+    ensures heard { (IsErrOf result Fault.Wire → ⊥) → W.receive_faults wire.new ≡ W.receive_faults wire.old }
+    ensures room { length room.new.buf.items ≡ length room.old.buf.items }
 {
     let site = node.state().site.as_slice();
     let mut event = match receive(alloc, me, site, wire, &mut room.buf) {
@@ -165,16 +167,18 @@ fn turns_in<D: Disk, W: Wire, L: Launcher, P: Printer, O: Outlet, C: Clock>(
     requires sound { IsSoundHost (content_of node.old) }
     requires running { is_stopped node.old ≡ false }
     requires host { IsHost me }
+    requires room { 49_152 < length room.old.buf.items }
     ensures sound { IsSoundHost (content_of node.new) }
     ensures site { (content_of node.new).site ≡ (content_of node.old).site }
     ensures run { (s : Plain) (here : Here) → Knows node.old s → here ≡ record { me = me; site = (content_of node.old).site }
         → (acts : List Act) × (t : Turn) × (more : Begun)
         × Ran here acts (idle s) t more
-        (telling (W.received wire.old) (W.sent wire.old) (L.asked launcher.old) (P.prints printer.old) (O.filings outlet.old) (C.given clock.old))
-        (telling (W.received wire.new) (W.sent wire.new) (L.asked launcher.new) (P.prints printer.new) (O.filings outlet.new) (C.given clock.new))
+        (telling (W.traffic wire.old) (L.asked launcher.old) (P.prints printer.old) (O.filings outlet.old) (C.given clock.old))
+        (telling (W.traffic wire.new) (L.asked launcher.new) (P.prints printer.new) (O.filings outlet.new) (C.given clock.new))
         × Ends result turns (stops here (idle s) acts) t more node.new
         × TellsThroughout (active_of node.old) (history_of node.old) (history_of node.new) (IsPassed here (idle s) acts more.moments) }
     ensures wire_fault { result ≡ ServeEnd.WireFault → Rose (W.receive_faults wire.old) (W.receive_faults wire.new) }
+    ensures heard { result ≢ ServeEnd.WireFault → W.receive_faults wire.new ≡ W.receive_faults wire.old }
     ensures disk_fault { result ≡ ServeEnd.DiskFault → IsTrue (is_stopped node.new)
         × ((which : Which) × Rose (D.faults (disk_of which node.old)) (D.faults (disk_of which node.new))) }
 {
@@ -200,10 +204,11 @@ const ROOM: usize = 49_153;
 /// nothing came, the launcher is tended first.
 ///
 /// The node's state is that after the run over what was received, and what the outside was asked
-/// for is just what goes out of that run, in order. Whatever a stop leaves of the node's disks at
-/// any moment tells a state that the run passes. After `DiskFault` the node is stopped, what went
-/// out of the last event is just what the calls before the failed one say, and the disks tell the
-/// state after these or after that one. After `Memory` nothing of the last event went out.
+/// for is just what goes out of that run, in order: the datagrams of an event are sent before the
+/// next receive. Whatever a stop leaves of the node's disks at any moment tells a state that the run
+/// passes. A receive that failed ends the run. After `DiskFault` the node is stopped, what went out
+/// of the last event is just what the calls before the failed one say, and the disks tell the state
+/// after these or after that one. After `Memory` nothing of the last event went out.
 pub fn serve<D: Disk, W: Wire, L: Launcher, P: Printer, O: Outlet, C: Clock>(
     alloc: Global,
     node: &mut Node<D>,
@@ -220,11 +225,12 @@ pub fn serve<D: Disk, W: Wire, L: Launcher, P: Printer, O: Outlet, C: Clock>(
     ensures site { (content_of node.new).site ≡ (content_of node.old).site }
     ensures run { IsTrue D.tells → (s : Plain) → Tells node.old s → (acts : List Act) × (t : Turn) × (more : Begun)
         × Ran (here_of node.old) acts (idle s) t more
-        (telling (W.received wire.old) (W.sent wire.old) (L.asked launcher.old) (P.prints printer.old) (O.filings outlet.old) (C.given clock.old))
-        (telling (W.received wire.new) (W.sent wire.new) (L.asked launcher.new) (P.prints printer.new) (O.filings outlet.new) (C.given clock.new))
+        (telling (W.traffic wire.old) (L.asked launcher.old) (P.prints printer.old) (O.filings outlet.old) (C.given clock.old))
+        (telling (W.traffic wire.new) (L.asked launcher.new) (P.prints printer.new) (O.filings outlet.new) (C.given clock.new))
         × Ends result turns (stops (here_of node.old) (idle s) acts) t more node.new
         × TellsThroughout (active_of node.old) (history_of node.old) (history_of node.new) (IsPassed (here_of node.old) (idle s) acts more.moments) }
     ensures wire_fault { result ≡ ServeEnd.WireFault → Rose (W.receive_faults wire.old) (W.receive_faults wire.new) }
+    ensures heard { result ≢ ServeEnd.WireFault → W.receive_faults wire.new ≡ W.receive_faults wire.old }
     ensures disk_fault { result ≡ ServeEnd.DiskFault → IsTrue (is_stopped node.new)
         × ((which : Which) × Rose (D.faults (disk_of which node.old)) (D.faults (disk_of which node.new))) }
 {

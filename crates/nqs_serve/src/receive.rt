@@ -1,10 +1,10 @@
 //! A receive, and the event that it brought.
 
-ghost use Rattle.std.specs.Prelude.{◌≡◌, ◌≤◌, ◌∷◌, [], IfOk, IsErrOf, IfSome, IsTrue, length};
+ghost use Rattle.std.specs.Prelude.{◌≡◌, ◌<◌, ◌≤◌, ◌∷◌, [], IfOk, IsErrOf, IfSome, IsTrue, length};
 ghost use Rattle.nqs_base.specs.Want.{want};
 ghost use Rattle.nqs_outside.specs.Causes.{Rose};
 ghost use Rattle.nqs_outside.specs.Told.{Extends};
-ghost use Rattle.nqs_outside.specs.Asked.{Arrival, came};
+ghost use Rattle.nqs_outside.specs.Asked.{Arrival, came, inbound};
 ghost use Rattle.nqs_rules.specs.Sane.{is_sane_event};
 ghost use Rattle.nqs_serve.specs.Events.{Here, event_in};
 ghost use Rattle.nqs_serve.specs.Sends.{is_right_event};
@@ -36,7 +36,8 @@ fn event_in(alloc: Global, me: HostId, site: &[Name], bytes: &[u8]) -> Result<Op
     }
 }
 
-/// The event that a receive brought, if it brought one.
+/// The event that a receive brought, if it brought one. The buffer has room for one byte more than
+/// the longest datagram.
 pub(crate) fn receive<W: Wire>(
     alloc: Global,
     me: HostId,
@@ -44,15 +45,17 @@ pub(crate) fn receive<W: Wire>(
     wire: &mut W,
     buf: &mut [u8],
 ) -> Result<Option<Event>, Missed>
+    requires room { 49_152 < length buf.old }
     ensures came { IfOk result (λ event. (arrival : Arrival) × (event ≡ event_in (record { me = me; site = site.now }) arrival)
-        × Extends (W.received wire.old) (W.received wire.new) (arrival ∷ [])) }
+        × Extends (W.traffic wire.old) (W.traffic wire.new) (inbound arrival ∷ [])) }
     ensures sane { IfOk result (λ event. IfSome event (λ e. IsTrue (is_sane_event (length site.now) e))) }
     ensures right { IfOk result (λ event. IfSome event (λ e. IsTrue (is_right_event (length site.now) e))) }
-    ensures cut { IsErrOf result (Missed.Memory want) → (arrival : Arrival) × Extends (W.received wire.old) (W.received wire.new) (arrival ∷ []) }
-    ensures lost { IsErrOf result Missed.Wire → Extends (W.received wire.old) (W.received wire.new) []
+    ensures cut { IsErrOf result (Missed.Memory want) → (arrival : Arrival) × Extends (W.traffic wire.old) (W.traffic wire.new) (inbound arrival ∷ []) }
+    ensures lost { IsErrOf result Missed.Wire → Extends (W.traffic wire.old) (W.traffic wire.new) []
         × Rose (W.receive_faults wire.old) (W.receive_faults wire.new) }
-    ensures sent { Extends (W.sent wire.old) (W.sent wire.new) [] }
+    ensures heard { (IsErrOf result Missed.Wire → ⊥) → W.receive_faults wire.new ≡ W.receive_faults wire.old }
     ensures later { W.receive_faults wire.old ≤ W.receive_faults wire.new }
+    ensures same_length { length buf.new ≡ length buf.old }
 {
     let Ok(received) = wire.receive(buf) else {
         return Err(Missed::Wire);

@@ -256,8 +256,8 @@ pub(crate) fn take_event<D: Disk, W: Wire, L: Launcher, P: Printer, O: Outlet, C
         → OnOk result ((m : ℕ) × (outcomes : List Outcome) × (back.new.items ≡ back.old.items ++ brought_back outcomes)
         × Knows node.new (after_event m event.old s) × (outputs_in outcomes ≡ outputs m event.old s)
         × Grew here (took m outcomes ∷ []) none_begun
-        (telling (W.received wire.old) (W.sent wire.old) (L.asked launcher.old) (P.prints printer.old) (O.filings outlet.old) (C.given clock.old))
-        (telling (W.received wire.new) (W.sent wire.new) (L.asked launcher.new) (P.prints printer.new) (O.filings outlet.new) (C.given clock.new))
+        (telling (W.traffic wire.old) (L.asked launcher.old) (P.prints printer.old) (O.filings outlet.old) (C.given clock.old))
+        (telling (W.traffic wire.new) (L.asked launcher.new) (P.prints printer.new) (O.filings outlet.new) (C.given clock.new))
         × TellsTo (active_of node.old) (active_of node.new) (history_of node.old) (history_of node.new) (IsWithin m event.old s)) }
     ensures halts { (s : Plain) → Knows node.old s → IfOk result (λ halts. halts ≡ shuts_down event.old s) }
     ensures cut { (s : Plain) (here : Here) → Knows node.old s → here ≡ record { me = me; site = (content_of node.old).site }
@@ -265,12 +265,12 @@ pub(crate) fn take_event<D: Disk, W: Wire, L: Launcher, P: Printer, O: Outlet, C
         × (IsErrOf result (Cut.Memory want) → (outcomes ≡ []) × ((u : Plain) × Knows node.new u × IsWithin m event.old s u))
         × (IsErrOf result Cut.Disk → Broke (IsAt node.new) (calls m event.old s) s (outputs_in outcomes) (history_of node.new))
         × Grew here [] (begun m outcomes)
-        (telling (W.received wire.old) (W.sent wire.old) (L.asked launcher.old) (P.prints printer.old) (O.filings outlet.old) (C.given clock.old))
-        (telling (W.received wire.new) (W.sent wire.new) (L.asked launcher.new) (P.prints printer.new) (O.filings outlet.new) (C.given clock.new))
+        (telling (W.traffic wire.old) (L.asked launcher.old) (P.prints printer.old) (O.filings outlet.old) (C.given clock.old))
+        (telling (W.traffic wire.new) (L.asked launcher.new) (P.prints printer.new) (O.filings outlet.new) (C.given clock.new))
         × TellsThroughout (active_of node.old) (history_of node.old) (history_of node.new) (IsWithin m event.old s)) }
     ensures fewer { IsTrue (comes_back event.old)
         → OnOk result (starts_left (content_of node.new) + length back.new.items ≤ starts_left (content_of node.old) + length back.old.items) }
-    ensures wire { W.receive_faults wire.old ≤ W.receive_faults wire.new }
+    ensures heard { W.receive_faults wire.new ≡ W.receive_faults wire.old }
 {
     out.clear();
     let now = clock.now();
@@ -328,8 +328,8 @@ pub(crate) fn take_back<D: Disk, W: Wire, L: Launcher, P: Printer, O: Outlet, C:
     ensures ok { (s : Plain) (here : Here) → Knows node.old s → here ≡ record { me = me; site = (content_of node.old).site }
         → OnOk result ((acts : List Act) × (u : Plain) × (arrivals acts ≡ []) × Knows node.new u
         × Ran here acts (turn s (map event_back back.old.items)) (idle u) none_begun
-        (telling (W.received wire.old) (W.sent wire.old) (L.asked launcher.old) (P.prints printer.old) (O.filings outlet.old) (C.given clock.old))
-        (telling (W.received wire.new) (W.sent wire.new) (L.asked launcher.new) (P.prints printer.new) (O.filings outlet.new) (C.given clock.new))
+        (telling (W.traffic wire.old) (L.asked launcher.old) (P.prints printer.old) (O.filings outlet.old) (C.given clock.old))
+        (telling (W.traffic wire.new) (L.asked launcher.new) (P.prints printer.new) (O.filings outlet.new) (C.given clock.new))
         × TellsTo (active_of node.old) (active_of node.new) (history_of node.old) (history_of node.new)
         (IsPassed here (turn s (map event_back back.old.items)) acts [])) }
     ensures cut { (s : Plain) (here : Here) → Knows node.old s → here ≡ record { me = me; site = (content_of node.old).site }
@@ -337,11 +337,11 @@ pub(crate) fn take_back<D: Disk, W: Wire, L: Launcher, P: Printer, O: Outlet, C:
         × (IsErrOf result (Cut.Memory want) → (u : Plain) × Knows node.new u × IsCutAt t more u)
         × (IsErrOf result Cut.Disk → IsBroken (IsAt node.new) t more (history_of node.new))
         × Ran here acts (turn s (map event_back back.old.items)) t more
-        (telling (W.received wire.old) (W.sent wire.old) (L.asked launcher.old) (P.prints printer.old) (O.filings outlet.old) (C.given clock.old))
-        (telling (W.received wire.new) (W.sent wire.new) (L.asked launcher.new) (P.prints printer.new) (O.filings outlet.new) (C.given clock.new))
+        (telling (W.traffic wire.old) (L.asked launcher.old) (P.prints printer.old) (O.filings outlet.old) (C.given clock.old))
+        (telling (W.traffic wire.new) (L.asked launcher.new) (P.prints printer.new) (O.filings outlet.new) (C.given clock.new))
         × TellsThroughout (active_of node.old) (history_of node.old) (history_of node.new)
         (IsPassed here (turn s (map event_back back.old.items)) acts more.moments)) }
-    ensures wire { W.receive_faults wire.old ≤ W.receive_faults wire.new }
+    ensures heard { W.receive_faults wire.new ≡ W.receive_faults wire.old }
 {
     while waits(back) {
         let mut event = event_back(alloc, first(back));

@@ -1,6 +1,6 @@
 //! Tests of the records and of a host over its disks: `records` and `node` have those of a crate
-//! each, and `failures` what is told after each call that failed. They stand apart from the crates,
-//! so that a crate isn't proved once more for its tests.
+//! each, `failures` what is told after each call that failed, and `texts` what faults say. They
+//! stand apart from the crates, so that a crate isn't proved once more for its tests.
 #![tactic(auto)]
 
 #[cfg(test)]
@@ -9,3 +9,5 @@ mod failures;
 mod node;
 #[cfg(test)]
 mod records;
+#[cfg(test)]
+mod texts;

@@ -13,5 +13,5 @@ returns-in-Ok-clause-parts g c = inl (
   extends_then _ _ _ _ _ c.in-Ok.ensures.back c.wire_back.ensures.back,
   c.status_of_shepherd.ensures,
   c.shepherd-end.ensures.shepherds,
-  c.shepherd-end.ensures.fault,
+  c.shepherd-end.ensures.cause,
 )

@@ -15,8 +15,8 @@ returns-in-Ok-send g c =
     (wired g.W.Wire.traffic g.W.Wire.receive_faults g.W.Wire.send_faults c.args.wire.now c.await_answer.new.wire)
     (g.W.Wire.traffic c.send.new.self) c.await_answer.result
     (subst (λ b. Extends (g.W.Wire.traffic c.args.wire.now) (g.W.Wire.traffic c.send.new.self) (outbound (packet (Host c.args.errand.host) b) ∷ []))
-        (c.deref.ensures.value ∙ c.in-Ok.ensures) c.send.ensures.sends)
+    (c.deref.ensures.value ∙ c.in-Ok.ensures) c.send.ensures.sends)
     c.await_answer.ensures.heard
     (stops_then {A = Option Answer} (g.W.Wire.receive_faults c.args.wire.now) (g.W.Wire.receive_faults c.send.new.self)
-        (g.W.Wire.receive_faults c.await_answer.new.wire) c.await_answer.result c.send.ensures.receive_faults c.await_answer.ensures.cause)
+    (g.W.Wire.receive_faults c.await_answer.new.wire) c.await_answer.result c.send.ensures.receive_faults c.await_answer.ensures.cause)
     (c.await_answer.ensures.send_faults ∙ c.in-Ok-send.ensures.uncounted)

@@ -8,7 +8,7 @@ pub loop-i-preserved : goal.loop-i-preserved
 loop-i-preserved c = record {
   so_far = line_put c.args.texts.now c.loop-i.i c.index-texts-i.result c.args.out.now.items c.loop-i.out.items c.put_text.new.out.items
       c.put_line_end.new.out.items c.loop-i-test.true c.index-texts-i.is
-      c.loop-i.invariant.so_far (c.in_ok-put_text.ensures ∙ ap (λ (l : List ℕ). c.loop-i.out.items ++ l) c.as_slice.ensures) c.in_ok-put_line_end.ensures;
+      c.loop-i.invariant.so_far (c.in_ok-put_text.ensures.put ∙ ap (λ (l : List ℕ). c.loop-i.out.items ++ l) c.as_slice.ensures) c.in_ok-put_line_end.ensures.put;
 }
 
 pub returns : goal.returns

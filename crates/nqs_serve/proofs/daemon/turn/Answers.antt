@@ -24,7 +24,7 @@ returns-in-Ok-None-clause-ok g c = λ s here knows same.
       s,
       knows,
       ap (λ o. stops_by o s ∷ []) (sym none),
-      ran_received here s came.0 None _ _ none (received_grew here came.0 _ _ _ _ _ _ _ _ came.2 c.receive.ensures.sent),
+      ran_received here s came.0 None _ _ none (received_grew here came.0 _ _ _ _ _ _ came.2),
       through_none c.args.node.now s (IsPassed here (idle s) (received came.0 ∷ []) []) knows ([], received came.0 ∷ [], refl, inl refl),
     )
 
@@ -35,7 +35,7 @@ returns-in-Err-Wire-clause-err g c = λ s here knows same.
       [],
       idle s,
       none_begun,
-      ran_cut here (idle s) none_begun _ _ (missed_grew here _ _ _ _ _ _ _ _ lost.0 c.receive.ensures.sent),
+      ran_cut here (idle s) none_begun _ _ (missed_grew here _ _ _ _ _ _ lost.0),
       (refl, refl, knows.1, refl, omega arith),
       (active_of c.args.node.now, still),
     )
@@ -46,7 +46,7 @@ returns-in-Err-Memory-clause-err g c = λ s here knows same.
       received came.0 ∷ [],
       turn s (option_to_list (event_in here came.0)),
       none_begun,
-      ran_received here s came.0 (event_in here came.0) _ _ refl (received_grew here came.0 _ _ _ _ _ _ _ _ came.1 c.receive.ensures.sent),
+      ran_received here s came.0 (event_in here came.0) _ _ refl (received_grew here came.0 _ _ _ _ _ _ came.1),
       ((s, knows.1, inl (refl, refl)), one_receive (stops_by (event_in here came.0) s)),
       (
         active_of c.args.node.now,
@@ -82,7 +82,7 @@ returns-in-Err-clause-err g c = λ s here knows same.
       turn s (e ∷ []),
       begun cut.0 cut.1,
       ran_then here (received came.0 ∷ []) [] (idle s) (turn s (e ∷ [])) _ (begun cut.0 cut.1) _ _ _
-          (ran_received here s came.0 (Some e) _ _ some (tended_grew here came.0 _ _ _ _ _ _ _ _ _ came.2 c.receive.ensures.sent c.tend_at.ensures))
+          (ran_received here s came.0 (Some e) _ _ some (tended_grew here came.0 _ _ _ _ _ _ _ came.2 c.tend_at.ensures))
           (ran_cut here (turn s (e ∷ [])) (begun cut.0 cut.1) _ _ cut.4),
       subst (λ f. Ends (end_of f) 1 bs (turn s (e ∷ [])) (begun cut.0 cut.1) c.take_event-taken.new.node) (sym c.fault_of.ensures)
           (cut_ends c.in-Err.cut bs (turn s (e ∷ [])) (begun cut.0 cut.1) c.take_event-taken.new.node
@@ -108,7 +108,7 @@ returns-in-Err-take_back-clause-err g c = λ s here knows same.
       cut.1,
       cut.2,
       ran_turn here came.0 ok.0 ok.1 cut.0 s e c.clear.new.self.items _ cut.1 cut.2 _ _ _ _ some c.clear.ensures.items ok.2 ok.4
-          (tended_grew here came.0 _ _ _ _ _ _ _ _ _ came.2 c.receive.ensures.sent c.tend_at.ensures) ok.5 cut.6,
+          (tended_grew here came.0 _ _ _ _ _ _ _ came.2 c.tend_at.ensures) ok.5 cut.6,
       subst (λ f. Ends (end_of f) 1 bs cut.1 cut.2 c.take_back.new.node) (sym c.fault_of-in-Err-take_back.ensures)
           (cut_ends c.in-Err-take_back.cut bs cut.1 cut.2 c.take_back.new.node
           (λ memory. let known = cut.4 (ap Err memory) in (known.0, known.1.1, known.2))
@@ -153,6 +153,6 @@ returns-clause-ok g c = λ s here knows same.
       rest.3,
       turn_stops here s came.0 ok.0 ok.1 rest.0 rest.2 ∙ ap (λ o. stops_by o s ∷ []) (sym some) ∙ ap (λ b. b ∷ []) (sym (c.in-Ok.ensures.halts s knows)),
       ran_turn here came.0 ok.0 ok.1 rest.0 s e c.clear.new.self.items _ (idle rest.1) none_begun _ _ _ _ some c.clear.ensures.items ok.2 ok.4
-          (tended_grew here came.0 _ _ _ _ _ _ _ _ _ came.2 c.receive.ensures.sent c.tend_at.ensures) ok.5 rest.4,
+          (tended_grew here came.0 _ _ _ _ _ _ _ came.2 c.tend_at.ensures) ok.5 rest.4,
       through_turn here _ _ _ _ _ _ came.0 ok.0 ok.1 rest.0 s e c.clear.new.self.items _ [] some c.clear.ensures.items ok.2 ok.6 rest.5,
     )

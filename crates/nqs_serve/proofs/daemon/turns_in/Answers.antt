@@ -4,6 +4,7 @@ use Rattle.nqs_serve.specs.Events.{Here}
 use Rattle.nqs_serve.specs.Runs.{idle, none_begun}
 use Rattle.nqs_serve.specs.Ends.{Ends, NoneStops, stops, end_of}
 use Rattle.nqs_serve.specs.Moments.{IsPassed}
+use Rattle.nqs_serve.specs.declared.daemon.Fault.TheVariants as fault
 use Rattle.nqs_serve.proofs.Acts.{ran_none, ran_then, stops_then}
 use Rattle.nqs_serve.proofs.Ending.{none_both, ends_then, wire_end, disk_end}
 use Rattle.nqs_outside.proofs.Roses.{rose_since}
@@ -14,7 +15,8 @@ use Rattle.nqs_serve.proofs.daemon.turns_in.Goals as goal
 pub loop-left-init : goal.loop-left-init
 loop-left-init g c = record {
   leaves = none_left _ _ _ (no_error _ _) c.requires.sound c.requires.running;
-  wire = omega arith;
+  room = c.requires.room;
+  heard = refl;
   ran = λ s here knows same.
       ([], s, refl, omega arith, knows, ran_none here _ _, through_none c.args.node.now s (IsPassed here (idle s) [] []) knows ([], [], refl, inl refl));
 }
@@ -73,7 +75,11 @@ returns-in-Err-clause-run g c = λ s here knows same.
 
 pub returns-in-Err-clause-wire_fault : goal.returns-in-Err-clause-wire_fault
 returns-in-Err-clause-wire_fault g c = λ is.
-    rose_since _ _ _ c.loop-left.invariant.wire (c.in-Err.ensures.wire_fault (ap Err (wire_end c.in-Err.fault (sym c.end_of.ensures ∙ is))))
+    rose_since _ _ _ (omega (arith, c.loop-left.invariant.heard)) (c.in-Err.ensures.wire_fault (ap Err (wire_end c.in-Err.fault (sym c.end_of.ensures ∙ is))))
+
+pub returns-in-Err-clause-heard : goal.returns-in-Err-clause-heard
+returns-in-Err-clause-heard g c = λ other.
+    c.in-Err.ensures.heard (λ is. let wire : c.in-Err.fault ≡ fault.Wire = cc in other (c.end_of.ensures ∙ ap end_of wire)) ∙ c.loop-left.invariant.heard
 
 pub returns-in-Err-clause-disk_fault : goal.returns-in-Err-clause-disk_fault
 returns-in-Err-clause-disk_fault g c = λ is.
@@ -82,7 +88,8 @@ returns-in-Err-clause-disk_fault g c = λ is.
 pub loop-left-preserved : goal.loop-left-preserved
 loop-left-preserved g c = record {
   leaves = both_left _ _ _ _ _ _ _ c.loop-left.invariant.leaves c.in-Ok-false.ensures.leaves;
-  wire = omega (arith, c.loop-left.invariant.wire, c.in-Ok-false.ensures.wire);
+  room = omega (arith, c.loop-left.invariant.room, c.in-Ok-false.ensures.room);
+  heard = c.in-Ok-false.ensures.heard (λ is. cc) ∙ c.loop-left.invariant.heard;
   ran = λ s here knows same.
       let before = c.loop-left.invariant.ran s here knows same in
       let at : List (List ℕ) → Here = λ names. record { me = c.args.me; site = names } in

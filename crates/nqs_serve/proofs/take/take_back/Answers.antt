@@ -18,7 +18,7 @@ use Rattle.nqs_serve.proofs.take.take_back.Goals as goal
 pub loop-alloc-init : goal.loop-alloc-init
 loop-alloc-init g c = record {
   leaves = none_left _ _ _ (no_error _ _) c.requires.sound c.requires.running;
-  wire = omega arith;
+  heard = refl;
   ran = λ s here knows same.
       let start = turn s (map event_back c.args.back.now.items) in
       ([], s, refl, knows, ran_none here _ _, through_none c.args.node.now s (IsPassed here start [] []) knows ([], [], refl, inl refl));
@@ -75,7 +75,7 @@ loop-alloc-preserved g c =
     let split : c.loop-alloc.back.items ≡ x ∷ rest = c.first.ensures in
     record {
       leaves = both_left _ _ _ _ _ _ _ c.loop-alloc.invariant.leaves c.in_default.ensures.leaves;
-      wire = omega (arith, c.loop-alloc.invariant.wire, c.in_default.ensures.wire);
+      heard = c.in_default.ensures.heard ∙ c.loop-alloc.invariant.heard;
       ran = λ s here knows same.
           let before = c.loop-alloc.invariant.ran s here knows same in
           let at : List (List ℕ) → Here = λ names. record { me = c.args.me; site = names } in

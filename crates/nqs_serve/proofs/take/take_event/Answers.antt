@@ -28,7 +28,7 @@ returns-in-Err-Memory-clause-cut g c = λ s here knows same. (
   [],
   λ failed. (refl, c.in-Err-Memory.ensures.memory s c.args.event.now knows c.set_moment.ensures (ap Err c.in-Err-Memory.field-0-is)),
   λ failed. absurd (memory_is_no_disk _ failed),
-  clock_grew here _ _ _ _ _ _ _ c.now-now.result c.now-now.ensures,
+  clock_grew here _ _ _ _ _ _ c.now-now.result c.now-now.ensures,
   c.in-Err-Memory.ensures.moments s c.args.event.now knows c.set_moment.ensures,
 )
 
@@ -47,7 +47,7 @@ returns-in-Err-Disk-clause-cut g c = λ s here knows same.
           subst (λ (l : List Output). Broke (IsAt c.take_whole.new.node) (calls now e s) s l (history_of c.take_whole.new.node))
           (sym (carried.1 ∙ c.deref.ensures.value))
           (c.in-Err-Disk.ensures.broke s e knows c.set_moment.ensures (ap Err c.in-Err-Disk.field-0-is)),
-      cut_grew here now carried.0 _ _ c.carry.ensures.received carried.3 carried.4 carried.5 carried.6 c.now-now.ensures,
+      cut_grew here now carried.0 _ _ carried.3 carried.4 carried.5 carried.6 c.now-now.ensures,
       c.in-Err-Disk.ensures.moments s e knows c.set_moment.ensures,
     )
 
@@ -77,7 +77,7 @@ returns-clause-ok g c = λ s here knows same.
       carried.2 ∙ ap (λ (l : List Comeback). l ++ brought_back carried.0) c.in-Ok.ensures.behind,
       told.0,
       carried.1 ∙ c.deref-in-Ok.ensures.value ∙ told.1,
-      took_grew here now carried.0 _ _ c.carry-in-Ok.ensures.received carried.3 carried.4 carried.5 carried.6 c.now-now.ensures,
+      took_grew here now carried.0 _ _ carried.3 carried.4 carried.5 carried.6 c.now-now.ensures,
       c.in-Ok.ensures.moments s e knows c.set_moment.ensures,
     )
 
