@@ -205,10 +205,10 @@ const ROOM: usize = 49_153;
 ///
 /// The node's state is that after the run over what was received, and what the outside was asked
 /// for is just what goes out of that run, in order: the datagrams of an event are sent before the
-/// next receive. Whatever a stop leaves of the node's disks at any moment tells a state that the run
-/// passes. A receive that failed ends the run. After `DiskFault` the node is stopped, what went out
-/// of the last event is just what the calls before the failed one say, and the disks tell the state
-/// after these or after that one. After `Memory` nothing of the last event went out.
+/// next receive. Whatever a stop leaves of the node's disks at any moment tells a state that the
+/// run passes. A receive that failed ends the run. After `DiskFault` the node is stopped, what went
+/// out of the last event is just what the calls before the failed one say, and the disks tell the
+/// state after these or after that one. After `Memory` nothing of the last event went out.
 pub fn serve<D: Disk, W: Wire, L: Launcher, P: Printer, O: Outlet, C: Clock>(
     alloc: Global,
     node: &mut Node<D>,
