@@ -1,5 +1,7 @@
 //! The adapters over the real system: files, a socket on loopback, shells.
 
+ghost use Rattle.std.specs.Prelude.{◌<◌, length};
+
 use nqs_base::Name;
 use nqs_outside::{
     Address, Clock, Disk, Failed, Launcher, Outlet, Printer, Received, RunEnd, Runner, Wire,
