@@ -116,8 +116,8 @@ fn refuses_disks_of_another_host(rt: HostRuntime) -> Result<(), Fail> {
     Ok(())
 }
 
-// Where one of its disks isn't there, and another has bytes, a host is neither formatted nor served,
-// and no part is asked for. Its clients ask as ever.
+// Where one of its disks isn't there, and another has bytes, a host is neither formatted nor
+// served, and no part is asked for. Its clients ask as ever.
 #[test]
 fn misses_a_disk(rt: HostRuntime) -> Result<(), Fail> {
     let alloc = rt.alloc();

@@ -24,7 +24,8 @@ IsHearing host was now n =
     (arrivals : List Arrival) × Extends was now (map inbound arrivals) × (list_any (answers host) arrivals ≡ false) × (length arrivals ≡ n)
 
 -- one arrival more
-one_more : (was mid now : Option (List Traffic)) (arrivals : List Arrival) (a : Arrival) → Extends was mid (map inbound arrivals) → Extends mid now (inbound a ∷ [])
+one_more : (was mid now : Option (List Traffic)) (arrivals : List Arrival) (a : Arrival) → Extends was mid (map inbound arrivals)
+    → Extends mid now (inbound a ∷ [])
     → Extends was now (map inbound (arrivals ++ a ∷ []))
 one_more was mid now arrivals a first then =
     extends_same was now _ _ (sym (map-append inbound arrivals (a ∷ []))) (extends_then was mid now (map inbound arrivals) (inbound a ∷ []) first then)

@@ -40,7 +40,8 @@ stops_behind {A} {B} sends what other was mid now (stop.Unread unread) sent (a, 
 stops_behind {A} {B} sends what other was mid now (stop.Memory memory) sent never = absurd never
 
 -- the datagram once more, and what came then
-rounds_more : (told : Packet) (arrivals : List Arrival) (a : Arrival) → rounds told arrivals ++ outbound told ∷ inbound a ∷ [] ≡ rounds told (arrivals ++ a ∷ [])
+rounds_more : (told : Packet) (arrivals : List Arrival) (a : Arrival) → rounds told arrivals ++ outbound told ∷ inbound a ∷ []
+    ≡ rounds told (arrivals ++ a ∷ [])
 rounds_more told arrivals a = flat_map_more (λ b. outbound told ∷ inbound b ∷ []) [] arrivals a
 
 round : (told : Packet) (was mid now : Option (List Traffic)) (arrivals : List Arrival) (a : Arrival) → Extends was mid (rounds told arrivals)

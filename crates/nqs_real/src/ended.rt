@@ -1,5 +1,6 @@
 //! The files by which a runner keeps how its job ended, until the daemon knows: `started`, made
-//! before the job is started, which takes the space that the end needs, and `end`, which it becomes.
+//! before the job is started, which takes the space that the end needs, and `end`, which it
+//! becomes.
 //!
 //! `end` is whole or not there: a byte with the status, two with the length of the output, the
 //! greater first, the output, and the error output (`specs/Ends.antt`).

@@ -29,10 +29,10 @@ struct Shepherd {
 
 /// Starts a shell for each job, under `setpriv`, which has the system kill it as soon as the daemon
 /// ends; the shell starts `PROGRAM shepherd DIR HOST SEQ.HOST START` likewise, until that has told
-/// the job's end. Where there is no `setpriv` each launch fails; what a shortage of the system keeps
-/// back is kept, and tried again when it is tended. What is left of the jobs of an earlier daemon is
-/// ended before anything is launched. Trusted: that the program is still the one that runs, and that
-/// a shepherd which was started runs its job.
+/// the job's end. Where there is no `setpriv` each launch fails; what a shortage of the system
+/// keeps back is kept, and tried again when it is tended. What is left of the jobs of an earlier
+/// daemon is ended before anything is launched. Trusted: that the program is still the one that
+/// runs, and that a shepherd which was started runs its job.
 #[derive(Drop)]
 pub struct ShepherdLauncher {
     rt: HostRuntime,

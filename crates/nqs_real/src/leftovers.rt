@@ -5,10 +5,10 @@
 //! they were started with: the job's folder, as a path from the root without links. So a look
 //! through the files `/proc/NUMBER/environ` finds each of them, whatever its parent, group or
 //! session. The shell that starts the shepherd has a path below that folder: it is none of the
-//! job's, but goes with its host. Trusted: that the system shows its processes there and starts none
-//! with another environment than it was given. Not found are a process that took the variable out of
-//! its environment or wrote over it, what such a process started, and a process of a user whose
-//! files there can't be read.
+//! job's, but goes with its host. Trusted: that the system shows its processes there and starts
+//! none with another environment than it was given. Not found are a process that took the variable
+//! out of its environment or wrote over it, what such a process started, and a process of a user
+//! whose files there can't be read.
 
 ghost use Rattle.std.specs.Prelude.{◌≡◌, ◌<◌, ◌≤◌};
 ghost use Rattle.nqs_real.specs.Marks.{is_mark, is_marked};
@@ -159,8 +159,8 @@ fn longest_after(look: u32) -> u64
 
 // Ends each process with this mark, but for this process, by SIGKILL: it looks until two looks in a
 // row find none, since a look misses a process that is just between two programs, and one whose
-// parent the look ended. The first twenty looks take about a second and a half; later ones are up to
-// a minute apart. Where there are some left after so many looks, it fails with `TimedOut`.
+// parent the look ended. The first twenty looks take about a second and a half; later ones are up
+// to a minute apart. Where there are some left after so many looks, it fails with `TimedOut`.
 fn end_marked(rt: &HostRuntime, mark: &Mark, looks: u32) -> io::Result<()> {
     let mut was_calm = false;
     let mut waits = Waits::new(FIRST_WAIT);

@@ -41,8 +41,8 @@ fn write_in(rt: &HostRuntime, place: &str, name: &str, bytes: &[u8]) -> io::Resu
     file.write_all(bytes)
 }
 
-/// Makes the file that a job's runner looks for: the job is to end. Where its folder is gone, it has
-/// ended.
+/// Makes the file that a job's runner looks for: the job is to end. Where its folder is gone, it
+/// has ended.
 pub(crate) fn write_kill(rt: &HostRuntime, place: &str) -> io::Result<()> {
     match write_in(rt, place, "kill", b"") {
         Err(e) if e.kind() == ErrorKind::NotFound => Ok(()),

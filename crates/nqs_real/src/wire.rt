@@ -21,11 +21,11 @@ const SECOND: u64 = 1000;
 /// For how many bytes of datagrams that wait to be received a socket asks: 8 MB.
 const ROOM: i32 = 8 << 20;
 
-/// A UDP socket as a wire. It asks the system for room for 8 MB of datagrams that wait, and has what
-/// the system allows; one that finds no room is lost, as on any network. A receive waits at most
-/// until the wire's wait is over, which begins at the first receive and anew at the first one after
-/// each `Quiet`. So under any traffic a `Quiet` comes once a wait, and after it the next receive
-/// looks at the socket. Who sent a datagram is not known.
+/// A UDP socket as a wire. It asks the system for room for 8 MB of datagrams that wait, and has
+/// what the system allows; one that finds no room is lost, as on any network. A receive waits at
+/// most until the wire's wait is over, which begins at the first receive and anew at the first one
+/// after each `Quiet`. So under any traffic a `Quiet` comes once a wait, and after it the next
+/// receive looks at the socket. Who sent a datagram is not known.
 #[derive(Drop)]
 pub struct UdpWire {
     rt: HostRuntime,
