@@ -71,9 +71,8 @@ pub trait Machine: Notices {
         ensures hands { HandsOver (told self.old) (told self.new) (λ site. names_of dir.now site) MachineEnd.Failed result };
 
     /// Which disk of a host isn't there, where another one has bytes: the first in the order
-    /// `root`,
-    /// `first`, `second`, `spool`. It is asked before the disks are, and they aren't where one is
-    /// missing: it would be made anew, and the host would be another one.
+    /// `root`, `first`, `second`, `spool`. It is asked before the disks are, and they aren't where
+    /// one is missing: it would be made anew, and the host would be another one.
     fn missing_disk(&mut self, dir: &str, host: HostId) -> Result<Option<Which>, MachineEnd>
         ensures { HandsOver (told self.old) (told self.new) (λ missing. look_of dir.now host missing) MachineEnd.Failed result };
 
