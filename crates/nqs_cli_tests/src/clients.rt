@@ -104,8 +104,8 @@ fn is_asked(wire: &MemWire, bytes: &[u8], receives: usize) -> bool {
 }
 
 // Was this sent so often, and a receive made behind each?
-fn is_told(wire: &MemWire, bytes: &[u8], turns: usize) -> bool {
-    wire.kept().len() == 2 * turns
+fn is_told(wire: &MemWire, bytes: &[u8], turns: u8) -> bool {
+    wire.kept().len() == 2 * usize::from(turns)
         && wire.kept().iter().enumerate().all(|(place, kept)| if place % 2 == 0 {
             is_sent(kept, bytes)
         } else {
