@@ -62,3 +62,5 @@ pub mod HeldBy
 pub mod Begins
 pub mod Rests
 pub mod Resting
+pub mod ChangeKinds
+pub mod Caused

@@ -1,5 +1,6 @@
 -- Which change an event makes.
-use Rattle.std.proofs.Common.{◌≡◌, ℕ, ◌+◌, Bool, true, false, List, [], ◌∷◌, Option, None, Some, Result, Ok, Err, true≢false, refl, sym, ap, ◌∙◌, if◌then◌else◌}
+use Rattle.std.proofs.Common.{◌≡◌, ◌⊎◌, inl, inr, ℕ, ◌+◌, Bool, true, false, List, [], ◌∷◌, Option, None, Some, Result, Ok, Err, true≢false, refl, sym, ap, ◌∙◌}
+use Rattle.std.proofs.Common.{if◌then◌else◌}
 use Rattle.std.specs.Option.{IfSome}
 use Rattle.std.specs.List.{list_any}
 use Rattle.nqs_state.specs.State.{Plain}
@@ -56,7 +57,7 @@ Answers (body.Commit n) peer s ch = (ch ≡ Accepted peer n) × (has_promise pee
 Answers (body.Done n) peer s ch = (ch ≡ HandDone peer n) × HasHand Committed peer n s
 Answers (body.Inquire n) peer s ch = (ch ≡ HandCommitted peer n) × HasHand Offered peer n s
 Answers (body.Abort n) peer s ch = (ch ≡ Dropped peer n) × (has_promise peer n s ≡ true)
-Answers (body.Stage n path bytes) peer s ch = (kept : List ℕ) × (ch ≡ StageGot peer n path kept)
+Answers (body.Stage n path bytes) peer s ch = (kept : List ℕ) × (ch ≡ StageGot peer n path kept) × ((kept ≡ bytes) ⊎ (kept ≡ []))
 Answers (body.Staged n) peer s ch = ch ≡ StageGone peer n
 Answers b peer s ch = ⊥
 
@@ -204,10 +205,10 @@ module _ (s : Plain) where
     stage_makes : (n : ℕ) (path bytes : List ℕ) (a b : Bool)
         → IfSome (if a then says (send_staged s peer n ∷ []) else (if b then
         makes (StageGot peer n path bytes) (send_staged s peer n ∷ ready (out.File s.file_next path bytes) ∷ []) else
-        makes (StageGot peer n path []) (send_staged s peer n ∷ []))).change (λ ch. (kept : List ℕ) × (ch ≡ StageGot peer n path kept))
+        makes (StageGot peer n path []) (send_staged s peer n ∷ []))).change (Answers (body.Stage n path bytes) peer s)
     stage_makes n path bytes true b = tt
-    stage_makes n path bytes false true = (bytes, refl)
-    stage_makes n path bytes false false = ([], refl)
+    stage_makes n path bytes false true = (bytes, refl, inl refl)
+    stage_makes n path bytes false false = ([], refl, inr refl)
 
     staged_makes : (n : ℕ) (a : Bool) → IfSome (if a then makes (StageGone peer n) (due_of s peer (without_first (is_stage (peer_number peer n)) s.stages)) else
         quiet).change (λ ch. ch ≡ StageGone peer n)

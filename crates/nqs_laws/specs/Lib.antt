@@ -19,3 +19,4 @@ pub mod TakenOut
 pub mod Rest
 pub mod Checkpoints
 pub mod Outputs
+pub mod Caused

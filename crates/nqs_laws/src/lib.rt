@@ -3,6 +3,7 @@
 #![tactic(auto)]
 
 pub mod at_once;
+pub mod causes;
 pub mod checkpoints;
 pub mod closings;
 pub mod handovers;
