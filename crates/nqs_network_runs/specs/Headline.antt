@@ -19,6 +19,7 @@ use Rattle.nqs_laws.specs.History.{history}
 use Rattle.nqs_laws.specs.Words.{IsInOrderAll, replayed, is_counted, is_never_lost, boots_tell}
 use Rattle.nqs_laws.specs.Each.{OfChange, EachKept}
 use Rattle.nqs_laws.specs.AtOnce.{LeavesNone, TakesBackAll}
+use Rattle.nqs_laws.specs.Caused.{IsCaused}
 use Rattle.nqs_laws.specs.Closed.{HasState, IsClosedBy, MayClose, ClosesOwn}
 use Rattle.nqs_laws.specs.CutOff.{was_cut_off}
 use Rattle.nqs_laws.specs.HeldBy.{HoldsForCause}
@@ -103,11 +104,13 @@ RestsAfter site before last acts = (h : HostId) → host_for last (run_of site b
 abbrev pub LastTakerRests : List (List ℕ) → List Act → Type 0
 LastTakerRests site acts = (before : List Act) (last : Act) → acts ≡ before ++ last ∷ [] → RestsAfter site before last acts
 
--- The history tells what is seen, and leads to the states of the hosts, which are in order.
+-- The history tells what is seen, and leads to the states of the hosts, which are in order. In it
+-- each event has made its own changes alone.
 pub record IsToldByHistory (site : List (List ℕ)) (acts : List Act) : Type 0 where
   pub seen : sights (notes_of site acts) ≡ seen_of (run_of site acts)
   pub states : replayed (notes_of site acts) (first_states site) ≡ last_states site acts
   pub order : IsInOrderAll site (run_of site acts).world
+  pub causes : IsCaused acts (new_world site) (notes_of site acts)
 
 -- No request lies in two places, and each change was licensed. What is acknowledged stays, with its
 -- script, nothing else comes, and what went out stays out.

@@ -8,6 +8,7 @@ use nqs_language_acts::laws::{
     acts_are_sane, generated_schedules_are_sane, schedules_are_sane, sites_are_right,
 };
 use nqs_laws::at_once::{boots_purges_and_aborts_leave_none, ticks_take_back_all};
+use nqs_laws::causes::events_make_their_own_changes;
 use nqs_laws::closings::ends_of_promises_close_their_numbers;
 use nqs_laws::handovers::{
     accepted_requests_find_no_row, handovers_are_in_step, handovers_have_the_last_number,
@@ -38,6 +39,7 @@ pub fn runs_keep_the_laws()
     sites_are_right();
     acts_are_sane();
     history_tells_the_run();
+    events_make_their_own_changes();
     hosts_stay_in_order();
     no_request_lies_in_two_places();
     each_change_is_licensed();

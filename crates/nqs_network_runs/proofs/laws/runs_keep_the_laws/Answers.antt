@@ -21,6 +21,7 @@ returns c = λ words source site events asks n.
         seen = c.history_tells_the_run.ensures.seen acts (new_world site);
         states = c.history_tells_the_run.ensures.states acts (new_world site) sane;
         order = c.hosts_stay_in_order.ensures site acts right sane;
+        causes = c.events_make_their_own_changes.ensures acts (new_world site);
       };
       requests = record {
         place = c.no_request_lies_in_two_places.ensures site acts right sane;
