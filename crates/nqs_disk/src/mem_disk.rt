@@ -25,6 +25,7 @@ pub struct MemDisk {
     fuse: Option<Fuse>,
     once: Option<Fuse>,
     faults: u64,
+    reads: u64,
     lack: Option<Lack>,
     ghost replayed: { (after (fresh start.items) (calls_of calls.items)).content ≡ content.items },
     ghost sound: { IsTrue (is_sound start.items (calls_of calls.items)) },
@@ -43,19 +44,21 @@ impl Drop for MemDisk {
             fuse: _,
             once: _,
             faults: _,
+            reads: _,
             lack: _,
         } = self;
     }
 }
 
 impl MemDisk {
-    ghost use Rattle.nqs_disk.specs.MemDisk.{history_of, faults_of, lack_of, is_starved, fuse_of, once_of, fails_of, ends_of};
+    ghost use Rattle.nqs_disk.specs.MemDisk.{history_of, faults_of, reads_of, lack_of, is_starved, fuse_of, once_of, fails_of, ends_of};
     ghost use Rattle.nqs_disk.specs.Torn.{torn};
 
     /// An empty disk of which no call is to fail.
     pub fn new(alloc: Global) -> MemDisk
         ensures history { history_of result ≡ record { start = []; calls = [] } }
         ensures faults { faults_of result ≡ 0 }
+        ensures reads { reads_of result ≡ 0 }
         ensures starved { is_starved result ≡ false }
         ensures fuse { fuse_of result ≡ None }
         ensures once { once_of result ≡ None }
@@ -68,6 +71,7 @@ impl MemDisk {
             fuse: None,
             once: None,
             faults: 0,
+            reads: 0,
             lack: None,
         }
     }
@@ -77,6 +81,7 @@ impl MemDisk {
         ensures history { IfOk result (λ disk. history_of disk ≡ record { start = torn tear (state (history_of self)); calls = [] }) }
         ensures image { IfOk result (λ disk. IsImage (state (history_of self)) (content (history_of disk))) }
         ensures faults { IfOk result (λ disk. faults_of disk ≡ 0) }
+        ensures reads { IfOk result (λ disk. reads_of disk ≡ 0) }
         ensures starved { IfOk result (λ disk. is_starved disk ≡ false) }
         ensures fuse { IfOk result (λ disk. fuse_of disk ≡ None) }
         ensures once { IfOk result (λ disk. once_of disk ≡ None) }
@@ -91,6 +96,7 @@ impl MemDisk {
             fuse: _,
             once: _,
             faults: _,
+            reads: _,
             lack,
         } = self;
         if let Some(lack) = lack {
@@ -105,6 +111,7 @@ impl MemDisk {
             fuse: None,
             once: None,
             faults: 0,
+            reads: 0,
             lack: None,
         })
     }
@@ -114,6 +121,7 @@ impl MemDisk {
     pub fn fail_once(&mut self, call: u64)
         ensures history { history_of self.new ≡ history_of self.old }
         ensures faults { faults_of self.new ≡ faults_of self.old }
+        ensures reads { reads_of self.new ≡ reads_of self.old }
         ensures lack { lack_of self.new ≡ lack_of self.old }
         ensures fuse { fuse_of self.new ≡ fuse_of self.old }
         ensures set { (i : ℕ) → fails_of self.new i ≡ ((moment (history_of self.old) + (max call 1 - 1)) == i || ends_of self.old i) }
@@ -144,6 +152,7 @@ impl MemDisk {
             fuse: _,
             once: _,
             faults: _,
+            reads: _,
             lack,
         } = self;
         lack
@@ -162,6 +171,7 @@ fn answer(
     ensures err { OnErr result (MatchResult kept (λ _. done ≡ false) (λ _. Unit {0})) }
     ensures later { faults.old ≤ faults.new }
     ensures failed { OnErr result (Rose faults.old faults.new) }
+    ensures faultless { OnOk result (faults.new ≡ faults.old) }
     ensures lack { lack.new ≡ newest kept lack.old }
     ensures starved { is_some lack.new ≡ (is_some lack.old || is_err kept) }
 {
@@ -177,7 +187,7 @@ fn answer(
 }
 
 impl Disk for MemDisk {
-    ghost use Rattle.nqs_disk.specs.MemDisk.{history_of, fails_of, ends_of, is_starved};
+    ghost use Rattle.nqs_disk.specs.MemDisk.{history_of, fails_of, ends_of, is_starved, reads_of};
 
     ghost tells = { true };
 
@@ -191,7 +201,10 @@ impl Disk for MemDisk {
 
     ghost faults = { λ disk. disk.faults };
 
+    ghost reads = { reads_of };
+
     fn len(&mut self) -> Result<u64, Failed> {
+        self.reads = self.reads.saturating_add(1);
         if is_blown(self.fuse, self.calls.len()) {
             self.faults = self.faults.saturating_add(1);
             return Err(Failed);
@@ -200,6 +213,7 @@ impl Disk for MemDisk {
     }
 
     fn read_at(&mut self, place: u64, buf: &mut [u8]) -> Result<usize, Failed> {
+        self.reads = self.reads.saturating_add(1);
         if is_blown(self.fuse, self.calls.len()) {
             self.faults = self.faults.saturating_add(1);
             return Err(Failed);

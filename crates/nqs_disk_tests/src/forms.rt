@@ -1,6 +1,6 @@
 //! Journals of either form: texts by hand, whole, cut short at every byte, and with one byte wrong;
 //! a journal that was begun by a snapshot; a disk whose reads fail.
-ghost use Rattle.std.specs.Prelude.{false, [], IsErr, IfOk};
+ghost use Rattle.std.specs.Prelude.{◌≡◌, false, [], IsErr, IfOk, OnOk};
 ghost use Rattle.nqs_outside.specs.Causes.{HasCause};
 ghost use Rattle.nqs_outside.specs.History.{IsQuiet};
 ghost use Rattle.nqs_disk.specs.MemDisk.{history_of};
@@ -230,7 +230,8 @@ struct Failing {
 impl Failing {
     // Before each read.
     fn count(&mut self) -> Result<(), Failed>
-        ensures { HasCause self.old.faults self.new.faults result }
+        ensures cause { HasCause self.old.faults self.new.faults result }
+        ensures faultless { OnOk result (self.new.faults ≡ self.old.faults) }
     {
         if self.left == 0 {
             return self.fail();
@@ -241,6 +242,7 @@ impl Failing {
 
     fn fail(&mut self) -> Result<(), Failed>
         ensures err { IsErr result }
+        ensures faultless { OnOk result (self.new.faults ≡ self.old.faults) }
         ensures cause { HasCause self.old.faults self.new.faults result }
     {
         self.faults = self.faults.saturating_add(1);
@@ -260,6 +262,8 @@ impl Disk for Failing {
     ghost starved = { λ _. false };
 
     ghost faults = { λ disk. disk.faults };
+
+    ghost reads = { λ _. 0 };
 
     fn len(&mut self) -> Result<u64, Failed> {
         self.count()?;

@@ -46,6 +46,8 @@ pub(crate) fn write_begin<D: Disk>(disk: &mut D, text: &[u8]) -> Result<(), Fail
     ensures ends { IsTrue D.tells → (i : ℕ) → D.ends disk.new i ≡ D.ends disk.old i }
     ensures later { D.faults disk.old ≤ D.faults disk.new }
     ensures failed { OnErr result (Rose (D.faults disk.old) (D.faults disk.new)) }
+    ensures faultless { OnOk result (D.faults disk.new ≡ D.faults disk.old) }
+    ensures unread { IsTrue D.tells → D.reads disk.new ≡ D.reads disk.old }
     // Only where the disk is starved, or a call was to fail.
     ensures cause { IsTrue D.tells → OnErr result (IsTrue (D.starved disk.new) ⊎ (i : ℕ) × IsTrue (D.fails disk.old i)) }
     ensures exact { IsTrue D.tells → IsExact (D.fails disk.old) (D.starved disk.old) (D.starved disk.new)
@@ -89,6 +91,9 @@ pub fn format_with<D: Disk>(alloc: Global, disk: &mut D, payload: &[u8]) -> Resu
     ensures fuse { IsTrue D.tells → (i : ℕ) → D.fails disk.new i ≡ D.fails disk.old i }
     ensures ends { IsTrue D.tells → (i : ℕ) → D.ends disk.new i ≡ D.ends disk.old i }
     ensures later { D.faults disk.old ≤ D.faults disk.new }
+    // At Ok no call failed, and the disk isn't read.
+    ensures faultless { OnOk result (D.faults disk.new ≡ D.faults disk.old) }
+    ensures unread { IsTrue D.tells → D.reads disk.new ≡ D.reads disk.old }
 {
     let text = match one_payload_text(alloc, payload) {
         Ok(text) => text,

@@ -79,6 +79,9 @@ pub(crate) fn add_journal<D: Disk>(
     // Ok only where no call has ended the disk.
     ensures whole { IsTrue D.tells → OnOk result (IsWhole (D.ends disk.old) (moment (D.history disk.old))) }
     ensures reads { OnlyReads D.Disk disk.old disk.new }
+    // Its length and its bytes are asked for once, and at Ok neither call failed.
+    ensures twice { IsTrue D.tells → D.reads disk.new ≤ D.reads disk.old + 2 }
+    ensures faultless { OnOk result (D.faults disk.new ≡ D.faults disk.old) }
 {
     let bytes = read_disk(alloc, disk)?;
     add_text(alloc, &bytes, snapshot, found)
@@ -108,6 +111,9 @@ pub fn read_either<D: Disk>(
     // Ok only where no call has ended the disk.
     ensures whole { IsTrue D.tells → OnOk result (IsWhole (D.ends disk.old) (moment (D.history disk.old))) }
     ensures reads { OnlyReads D.Disk disk.old disk.new }
+    // Its length and its bytes are asked for once, and at Ok neither call failed.
+    ensures twice { IsTrue D.tells → D.reads disk.new ≤ D.reads disk.old + 2 }
+    ensures faultless { OnOk result (D.faults disk.new ≡ D.faults disk.old) }
 {
     match add_journal(alloc, disk, snapshot, found) {
         Ok(told) => Ok(told.has_snapshot),

@@ -58,6 +58,9 @@ impl<D: Disk> Journal<D> {
         ensures running { OnOk result (is_stopped self.new ≡ false) }
         ensures counted { MatchResult result (λ _. count_of self.new ≡ count_of self.old + 1) (λ _. count_of self.new ≡ count_of self.old) }
         ensures later { D.faults (disk_of self.old) ≤ D.faults (disk_of self.new) }
+        // At Ok no call failed, and the disk isn't read.
+        ensures faultless { OnOk result (D.faults (disk_of self.new) ≡ D.faults (disk_of self.old)) }
+        ensures unread { IsTrue D.tells → D.reads (disk_of self.new) ≡ D.reads (disk_of self.old) }
 
         // The calls that it makes: all four, or the first of them, of which only the last may have
         // failed.
@@ -128,6 +131,9 @@ pub fn format<D: Disk>(disk: &mut D) -> Result<(), JournalFault>
     ensures disk { OnErr result (Rose (D.faults disk.old) (D.faults disk.new)) }
     ensures fault { IfErr result (λ fault. fault ≡ JournalFault.Disk) }
     ensures later { D.faults disk.old ≤ D.faults disk.new }
+    // At Ok no call failed, and the disk isn't read.
+    ensures faultless { OnOk result (D.faults disk.new ≡ D.faults disk.old) }
+    ensures unread { IsTrue D.tells → D.reads disk.new ≡ D.reads disk.old }
     ensures made { IsTrue D.tells → OnOk result (D.history disk.new ≡ extended (D.history disk.old) format_calls) }
     ensures broken { IsTrue D.tells → OnErr result ((calls : List Call) × (D.history disk.new ≡ extended (D.history disk.old) calls)
         × StopsShort format_calls calls) }
@@ -161,6 +167,9 @@ impl<D: Disk> Journal<D> {
         // Ok only where no call has ended the disk.
         ensures whole { IsTrue D.tells → OnOk result (IsWhole (D.ends disk) (moment (D.history disk))) }
         ensures reads { MatchResult result (λ journal. OnlyReads D.Disk disk (disk_of journal)) (λ e. OnlyReads D.Disk disk e.1) }
+        // Its length and its bytes are asked for once, and at Ok neither call failed.
+        ensures twice { IsTrue D.tells → MatchResult result (λ journal. D.reads (disk_of journal) ≤ D.reads disk + 2) (λ e. D.reads e.1 ≤ D.reads disk + 2) }
+        ensures faultless { IfOk result (λ journal. D.faults (disk_of journal) ≡ D.faults disk) }
     {
         let mut disk = disk;
         let buffer = match Vec::with_capacity(alloc, ROOM) {
@@ -209,6 +218,9 @@ impl<D: Disk> Journal<D> {
         // Ok only where no call has ended the disk.
         ensures whole { IsTrue D.tells → OnOk result (IsWhole (D.ends disk) (moment (D.history disk))) }
         ensures reads { MatchResult result (λ told. OnlyReads D.Disk disk (disk_of told.0)) (λ e. OnlyReads D.Disk disk e.1) }
+        // Its length and its bytes are asked for once, and at Ok neither call failed.
+        ensures twice { IsTrue D.tells → MatchResult result (λ told. D.reads (disk_of told.0) ≤ D.reads disk + 2) (λ e. D.reads e.1 ≤ D.reads disk + 2) }
+        ensures faultless { IfOk result (λ told. D.faults (disk_of told.0) ≡ D.faults disk) }
     {
         let mut disk = disk;
         let buffer = match Vec::with_capacity(alloc, ROOM) {
@@ -252,6 +264,9 @@ impl<D: Disk> Journal<D> {
         ensures ends { IsTrue D.tells → (i : ℕ) → MatchResult result (λ journal. D.ends (disk_of journal) i ≡ D.ends disk i)
             (λ e. D.ends e.1 i ≡ D.ends disk i) }
         ensures later { MatchResult result (λ journal. D.faults disk ≤ D.faults (disk_of journal)) (λ e. D.faults disk ≤ D.faults e.1) }
+        // At Ok no call failed, and the disk isn't read.
+        ensures faultless { IfOk result (λ journal. D.faults (disk_of journal) ≡ D.faults disk) }
+        ensures unread { IsTrue D.tells → MatchResult result (λ journal. D.reads (disk_of journal) ≡ D.reads disk) (λ e. D.reads e.1 ≡ D.reads disk) }
     {
         let mut disk = disk;
         let buffer = match Vec::with_capacity(alloc, ROOM) {
@@ -317,6 +332,9 @@ impl<D: Disk> Journal<D> {
         ensures ends { IsTrue D.tells → (i : ℕ) → D.ends (disk_of self.new) i ≡ D.ends (disk_of self.old) i }
         ensures later { D.faults (disk_of self.old) ≤ D.faults (disk_of self.new) }
         ensures failed { OnErr result (Rose (D.faults (disk_of self.old)) (D.faults (disk_of self.new))) }
+        // At Ok no call failed, and the disk isn't read.
+        ensures faultless { OnOk result (D.faults (disk_of self.new) ≡ D.faults (disk_of self.old)) }
+        ensures unread { IsTrue D.tells → D.reads (disk_of self.new) ≡ D.reads (disk_of self.old) }
     {
         self.stopped = true;
         write_begin(&mut self.disk, text)?;
@@ -368,6 +386,9 @@ impl<D: Disk> Journal<D> {
         // Ok only where no call has ended the disk.
         ensures whole { IsTrue D.tells → OnOk result (IsWhole (D.ends (disk_of self.old)) (moment (history_of self.old))) }
         ensures reads { OnlyReads D.Disk (disk_of self.old) (disk_of self.new) }
+        // Its length and its bytes are asked for once, and at Ok neither call failed.
+        ensures twice { IsTrue D.tells → D.reads (disk_of self.new) ≤ D.reads (disk_of self.old) + 2 }
+        ensures faultless { OnOk result (D.faults (disk_of self.new) ≡ D.faults (disk_of self.old)) }
         ensures stays { (gate_of self.new ≡ gate_of self.old) × (is_stopped self.new ≡ is_stopped self.old) }
         ensures counted { count_of self.new ≡ count_of self.old }
     {
@@ -399,6 +420,9 @@ impl<D: Disk> Journal<D> {
         // Ok only where no call has ended the disk.
         ensures whole { IsTrue D.tells → OnOk result (IsWhole (D.ends (disk_of self.old)) (moment (history_of self.old))) }
         ensures reads { OnlyReads D.Disk (disk_of self.old) (disk_of self.new) }
+        // Its length and its bytes are asked for once, and at Ok neither call failed.
+        ensures twice { IsTrue D.tells → D.reads (disk_of self.new) ≤ D.reads (disk_of self.old) + 2 }
+        ensures faultless { OnOk result (D.faults (disk_of self.new) ≡ D.faults (disk_of self.old)) }
         ensures stays { (gate_of self.new ≡ gate_of self.old) × (is_stopped self.new ≡ is_stopped self.old) }
         ensures counted { count_of self.new ≡ count_of self.old }
     {
@@ -427,6 +451,7 @@ impl<D: Fused> Journal<D> {
         ensures counted { count_of self.new ≡ count_of self.old }
         ensures stopped { is_stopped self.new ≡ is_stopped self.old }
         ensures faults { D.faults (disk_of self.new) ≡ D.faults (disk_of self.old) }
+        ensures unread { D.reads (disk_of self.new) ≡ D.reads (disk_of self.old) }
     {
         self.disk.fuse(calls);
     }

@@ -30,6 +30,9 @@ pub(crate) fn read_disk<D: Disk>(alloc: Global, disk: &mut D) -> Result<Vec<u8>,
     // Ok only where no call has ended the disk.
     ensures whole { IsTrue D.tells → OnOk result (IsWhole (D.ends disk.old) (moment (D.history disk.old))) }
     ensures reads { OnlyReads D.Disk disk.old disk.new }
+    // Its length and its bytes are asked for once, and at Ok neither call failed.
+    ensures twice { IsTrue D.tells → D.reads disk.new ≤ D.reads disk.old + 2 }
+    ensures faultless { OnOk result (D.faults disk.new ≡ D.faults disk.old) }
 {
     let length = disk.len()?;
     let mut bytes = vec![in alloc; 0; length as usize]?;
@@ -49,6 +52,9 @@ pub(crate) fn read_journal<D: Disk>(alloc: Global, disk: &mut D) -> Result<Readi
     // Ok only where no call has ended the disk.
     ensures whole { IsTrue D.tells → OnOk result (IsWhole (D.ends disk.old) (moment (D.history disk.old))) }
     ensures reads { OnlyReads D.Disk disk.old disk.new }
+    // Its length and its bytes are asked for once, and at Ok neither call failed.
+    ensures twice { IsTrue D.tells → D.reads disk.new ≤ D.reads disk.old + 2 }
+    ensures faultless { OnOk result (D.faults disk.new ≡ D.faults disk.old) }
 {
     let bytes = read_disk(alloc, disk)?;
     read_text(alloc, &bytes)
@@ -71,6 +77,9 @@ pub fn read_payloads<D: Disk>(
     // Ok only where no call has ended the disk.
     ensures whole { IsTrue D.tells → OnOk result (IsWhole (D.ends disk.old) (moment (D.history disk.old))) }
     ensures reads { OnlyReads D.Disk disk.old disk.new }
+    // Its length and its bytes are asked for once, and at Ok neither call failed.
+    ensures twice { IsTrue D.tells → D.reads disk.new ≤ D.reads disk.old + 2 }
+    ensures faultless { OnOk result (D.faults disk.new ≡ D.faults disk.old) }
 {
     let mut reading = read_journal(alloc, disk)?;
     found.append(&mut reading.payloads)?;

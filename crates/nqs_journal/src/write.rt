@@ -23,6 +23,8 @@ pub(crate) fn write_behind<D: Disk>(disk: &mut D, gate: u64, text: &[u8]) -> Res
     ensures ends { IsTrue D.tells → (i : ℕ) → D.ends disk.new i ≡ D.ends disk.old i }
     ensures later { D.faults disk.old ≤ D.faults disk.new }
     ensures failed { OnErr result (Rose (D.faults disk.old) (D.faults disk.new)) }
+    ensures faultless { OnOk result (D.faults disk.new ≡ D.faults disk.old) }
+    ensures unread { IsTrue D.tells → D.reads disk.new ≡ D.reads disk.old }
 {
     disk.write_at(gate + 1, text)?;
     disk.sync()?;

@@ -1,7 +1,7 @@
 //! A disk as the crates above see it.
 ghost use Rattle.std.specs.Prelude.{◌≡◌, ◌⊎◌, ◌+◌, ◌-◌, ◌<◌, ◌≤◌, ◌^◌, ◌++◌, [], ◌∷◌, ℕ, Bool, true, false, IsTrue, min, max, nat_le, length, take, drop, IfOk};
 ghost use Rattle.std.specs.Prelude.{OnOk, OnErr};
-ghost use Rattle.nqs_outside.specs.Causes.{Rose};
+ghost use Rattle.nqs_outside.specs.Causes.{Rose, one_more};
 ghost use Rattle.nqs_outside.specs.History.{History, Call, write, sync, content, extended, moment, IsBroken, IsWhole};
 
 use crate::source::Failed;
@@ -27,6 +27,9 @@ pub trait Disk {
     /// How often a call has failed.
     ghost faults: { Self → ℕ };
 
+    /// How often it was asked for bytes or for its length.
+    ghost reads: { Self → ℕ };
+
     /// How many bytes there are.
     fn len(&mut self) -> Result<u64, Failed>
         ensures small { IfOk result (λ n. n ≤ 2 ^ 40) }
@@ -40,7 +43,9 @@ pub trait Disk {
         ensures ended { IsTrue tells → OnErr result ((i : ℕ) × (i < moment (history self.old)) × IsTrue (ends self.old i)) }
         ensures cause { IsTrue tells → OnErr result ((i : ℕ) × (i < moment (history self.old)) × IsTrue (fails self.old i)) }
         ensures later { faults self.old ≤ faults self.new }
-        ensures failed { OnErr result (Rose (faults self.old) (faults self.new)) };
+        ensures counted { IsTrue tells → reads self.new ≡ one_more (reads self.old) }
+        ensures failed { OnErr result (Rose (faults self.old) (faults self.new)) }
+        ensures faultless { OnOk result (faults self.new ≡ faults self.old) };
 
     /// Reads from a place on, up to the end.
     fn read_at(&mut self, place: u64, buf: &mut [u8]) -> Result<usize, Failed>
@@ -56,7 +61,9 @@ pub trait Disk {
         ensures ended { IsTrue tells → OnErr result ((i : ℕ) × (i < moment (history self.old)) × IsTrue (ends self.old i)) }
         ensures cause { IsTrue tells → OnErr result ((i : ℕ) × (i < moment (history self.old)) × IsTrue (fails self.old i)) }
         ensures later { faults self.old ≤ faults self.new }
-        ensures failed { OnErr result (Rose (faults self.old) (faults self.new)) };
+        ensures counted { IsTrue tells → reads self.new ≡ one_more (reads self.old) }
+        ensures failed { OnErr result (Rose (faults self.old) (faults self.new)) }
+        ensures faultless { OnOk result (faults self.new ≡ faults self.old) };
 
     /// Writes over what is there, and past the end.
     fn write_at(&mut self, place: u64, bytes: &[u8]) -> Result<(), Failed>
@@ -72,7 +79,9 @@ pub trait Disk {
         ensures ends { IsTrue tells → (i : ℕ) → ends self.new i ≡ ends self.old i }
         ensures starved { IsTrue tells → OnOk result (starved self.new ≡ starved self.old) }
         ensures later { faults self.old ≤ faults self.new }
-        ensures failed { OnErr result (Rose (faults self.old) (faults self.new)) };
+        ensures unread { IsTrue tells → reads self.new ≡ reads self.old }
+        ensures failed { OnErr result (Rose (faults self.old) (faults self.new)) }
+        ensures faultless { OnOk result (faults self.new ≡ faults self.old) };
 
     /// After it a stop leaves what a read gives.
     fn sync(&mut self) -> Result<(), Failed>
@@ -85,7 +94,9 @@ pub trait Disk {
         ensures ends { IsTrue tells → (i : ℕ) → ends self.new i ≡ ends self.old i }
         ensures starved { IsTrue tells → OnOk result (starved self.new ≡ starved self.old) }
         ensures later { faults self.old ≤ faults self.new }
-        ensures failed { OnErr result (Rose (faults self.old) (faults self.new)) };
+        ensures unread { IsTrue tells → reads self.new ≡ reads self.old }
+        ensures failed { OnErr result (Rose (faults self.old) (faults self.new)) }
+        ensures faultless { OnOk result (faults self.new ≡ faults self.old) };
 }
 
 /// A disk that can be set to fail.
@@ -96,6 +107,7 @@ pub trait Fused: Disk {
         ensures same { Self.history self.new ≡ Self.history self.old }
         ensures starved { Self.starved self.new ≡ Self.starved self.old }
         ensures faults { Self.faults self.new ≡ Self.faults self.old }
+        ensures unread { Self.reads self.new ≡ Self.reads self.old }
         // If none was to fail before.
         ensures set { IsTrue Self.tells → ((i : ℕ) → i < moment (Self.history self.old) → Self.fails self.old i ≡ false)
             → (i : ℕ) → Self.fails self.new i ≡ nat_le (moment (Self.history self.old) + (max calls 1 - 1)) i }

@@ -118,6 +118,8 @@ impl Disk for FileDisk {
 
     ghost faults = { λ disk. disk.faults };
 
+    ghost reads = { λ _. 0 };
+
     fn len(&mut self) -> Result<u64, Failed> {
         let made = self.length();
         counted(made, &mut self.faults)

@@ -76,6 +76,7 @@ impl LiveExtents {
 
     /// Memory for so many more.
     pub(crate) fn make_room(&mut self, count: u64) -> Result<(), Memory>
+        ensures full { OnErr result (room_of self.old < count) }
         ensures room { OnOk result (count ≤ room_of self.new) }
         ensures more { room_of self.old ≤ room_of self.new }
         ensures same { slots self.new ≡ slots self.old }

@@ -60,8 +60,10 @@ impl<D: Disk> Spool<D> {
         }
     }
 
-    /// Memory for so many more extents. An `Err` leaves all as it was.
+    /// Memory for so many more extents. An `Err` leaves all as it was, and never comes where there
+    /// was room.
     pub fn make_room(&mut self, count: u64) -> Result<(), Memory>
+        ensures full { OnErr result (room_of self.old < count) }
         ensures room { OnOk result (count ≤ room_of self.new) }
         ensures more { room_of self.old ≤ room_of self.new }
         ensures same { disk_of self.new ≡ disk_of self.old }
@@ -77,6 +79,9 @@ impl<D: Disk> Spool<D> {
         ensures fault { IfErr result (λ fault. fault ≡ SpoolFault.Disk) }
         ensures failed { OnErr result (FailedToRead D.Disk (disk_of self.old) (disk_of self.new)) }
         ensures reads { OnlyReads D.Disk (disk_of self.old) (disk_of self.new) }
+        // It asks the disk once, and at Ok that call didn't fail.
+        ensures once { IsTrue D.tells → D.reads (disk_of self.new) ≤ D.reads (disk_of self.old) + 1 }
+        ensures faultless { OnOk result (D.faults (disk_of self.new) ≡ D.faults (disk_of self.old)) }
         ensures tells { (live : List Extent) → Tells self.old live → Tells self.new live }
         ensures room { room_of self.new ≡ room_of self.old }
     {
@@ -93,6 +98,9 @@ impl<D: Disk> Spool<D> {
         ensures memory { IsErrOf result (SpoolFault.Memory want) → room_of self.old ≡ 0 }
         ensures room { room_of self.old ≤ room_of self.new + 1 }
         ensures later { D.faults (disk_of self.old) ≤ D.faults (disk_of self.new) }
+        // At Ok no call failed, and the disk isn't read.
+        ensures faultless { OnOk result (D.faults (disk_of self.new) ≡ D.faults (disk_of self.old)) }
+        ensures unread { IsTrue D.tells → D.reads (disk_of self.new) ≡ D.reads (disk_of self.old) }
         ensures refused { (result ≡ Err SpoolFault.TooLong) ⊎ (result ≡ Err (SpoolFault.Memory want)) → disk_of self.new ≡ disk_of self.old }
         ensures unchanged { (result ≡ Err SpoolFault.TooLong) ⊎ (result ≡ Err (SpoolFault.Memory want))
             → (live : List Extent) → Tells self.old live → Tells self.new live }
@@ -167,6 +175,9 @@ impl<D: Disk> Spool<D> {
         ensures failed { IsErrOf result SpoolFault.Disk → FailedToRead D.Disk (disk_of self.old) (disk_of self.new) }
         ensures fault { IfErr result (λ fault. (fault ≡ SpoolFault.Disk) ⊎ (fault ≡ SpoolFault.Memory want)) }
         ensures reads { OnlyReads D.Disk (disk_of self.old) (disk_of self.new) }
+        // It asks the disk once, and at Ok that call didn't fail.
+        ensures once { IsTrue D.tells → D.reads (disk_of self.new) ≤ D.reads (disk_of self.old) + 1 }
+        ensures faultless { OnOk result (D.faults (disk_of self.new) ≡ D.faults (disk_of self.old)) }
         ensures tells { (live : List Extent) → Tells self.old live → Tells self.new live }
         ensures room { room_of self.new ≡ room_of self.old }
     {
@@ -217,6 +228,7 @@ impl<D: Fused> Spool<D> {
         ensures alike { IsTrue D.tells → (i : ℕ) → D.ends (disk_of self.new) i ≡ D.fails (disk_of self.new) i }
         ensures starved { D.starved (disk_of self.new) ≡ D.starved (disk_of self.old) }
         ensures faults { D.faults (disk_of self.new) ≡ D.faults (disk_of self.old) }
+        ensures unread { D.reads (disk_of self.new) ≡ D.reads (disk_of self.old) }
         ensures tells { (live : List Extent) → Tells self.old live → Tells self.new live }
         ensures room { room_of self.new ≡ room_of self.old }
     {

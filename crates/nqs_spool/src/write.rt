@@ -24,6 +24,8 @@ pub(crate) fn write_through<D: Disk>(disk: &mut D, place: u64, bytes: &[u8]) -> 
     ensures fuse { IsTrue D.tells → (i : ℕ) → D.fails disk.new i ≡ D.fails disk.old i }
     ensures later { D.faults disk.old ≤ D.faults disk.new }
     ensures failed { OnErr result (Rose (D.faults disk.old) (D.faults disk.new)) }
+    ensures faultless { OnOk result (D.faults disk.new ≡ D.faults disk.old) }
+    ensures unread { IsTrue D.tells → D.reads disk.new ≡ D.reads disk.old }
 {
     disk.write_at(place, bytes)?;
     disk.sync()
@@ -43,6 +45,8 @@ pub(crate) fn append_read<D: Disk>(
     ensures fault { IfErr result (λ e. (e ≡ SpoolFault.Disk) ⊎ (e ≡ SpoolFault.Memory want)) }
     ensures failed { IsErrOf result SpoolFault.Disk → FailedToRead D.Disk disk.old disk.new }
     ensures reads { OnlyReads D.Disk disk.old disk.new }
+    ensures once { IsTrue D.tells → D.reads disk.new ≤ D.reads disk.old + 1 }
+    ensures faultless { OnOk result (D.faults disk.new ≡ D.faults disk.old) }
 {
     let start = out.len();
     out.resize(start + count as usize, 0)?;
