@@ -1,10 +1,35 @@
 -- Lists: what stands at a place, and what a write there leaves.
-use Rattle.std.proofs.Common.{◌≡◌, ℕ, ◌+◌, ◌<◌, Bool, true, false, not, List, [], ◌∷◌, map, find, length, slice_get, slice_set, slice_index_or, Some}
-use Rattle.std.proofs.Common.{zero, suc, refl, sym, ap, subst, ◌∙◌, arith, if◌then◌else◌}
+use Rattle.std.proofs.Common.{◌≡◌, ℕ, ◌+◌, ◌<◌, Bool, true, false, ◌||◌, not, List, [], ◌∷◌, ◌++◌, length, map, find, position, slice_get, slice_set, None, Some}
+use Rattle.std.proofs.Common.{zero, suc, refl, sym, ap, subst, ◌∙◌, arith, if◌then◌else◌, true≢false}
 use Rattle.std.specs.Prelude.{cond}
-use Rattle.std.specs.List.{position_or_len}
+use Rattle.std.specs.List.{list_any, position_or_len}
+use Rattle.std.proofs.lemmas.Bool.{lt-ltb}
 use Rattle.std.proofs.lemmas.Option.{same_Some, none-some}
 use Rattle.nqs_base_tables.specs.Table.{change_first}
+
+module _ {V : Type 0} (test : V → Bool) where
+  -- where one passes, the first such has a place
+  within_any : (vs : List V) → list_any test vs ≡ true → position_or_len test vs < length vs
+  within_any [] h = absurd (true≢false (sym h))
+  within_any (x ∷ vs) h = by (test x) h (within_any vs)
+    where
+      by : (b : Bool) → (b || list_any test vs) ≡ true → (list_any test vs ≡ true → position_or_len test vs < length vs)
+          → cond (not b) (1 + position_or_len test vs) 0 < length (x ∷ vs)
+      by true h rest = omega arith
+      by false h rest = let less = rest h in omega (arith, less)
+
+  pub has_place : (vs : List V) → list_any test vs ≡ true → position test vs ≡ None → ⊥
+  has_place vs any none = none-some (position_or_len test vs)
+      (sym none ∙ ap (λ b. cond b (Some (position_or_len test vs)) None) (lt-ltb (position_or_len test vs) (length vs) (within_any vs any)))
+
+  -- one passes behind others
+  pub any_behind : (vs : List V) (v : V) → test v ≡ true → list_any test (vs ++ v ∷ []) ≡ true
+  any_behind [] v passes = (λ j. passes j || false)
+  any_behind (x ∷ vs) v passes = by (test x) (any_behind vs v passes)
+    where
+      by : (b : Bool) → list_any test (vs ++ v ∷ []) ≡ true → (b || list_any test (vs ++ v ∷ [])) ≡ true
+      by true rest = refl
+      by false rest = rest
 
 module _ {V : Type 0} where
   -- a write behind another one
@@ -55,21 +80,3 @@ module _ {A V : Type 0} (f : V → A) where
   image_get [] i v at = absurd (none-some v at)
   image_get (x ∷ vs) zero v at = ap (λ y. Some (f y)) (same_Some x v at)
   image_get (x ∷ vs) (suc i) v at = image_get vs i v at
-
-  -- what stands at a place of a list of images
-  pub image_of : (vs : List V) (i : ℕ) → i < length (map f vs) → (v : V) × (slice_get vs i ≡ Some v)
-  image_of [] i lt = absurd (let no : ⊥ = omega arith in no)
-  image_of (x ∷ vs) zero lt = (x, refl)
-  image_of (x ∷ vs) (suc i) lt = image_of vs i (omega arith)
-
-  -- the image of what stands at a place
-  pub image_is : (none : A) (vs : List V) (i : ℕ) (v : V) → slice_get vs i ≡ Some v → slice_index_or (map f vs) i none ≡ f v
-  image_is none [] i v at = absurd (none-some v at)
-  image_is none (x ∷ vs) zero v at = ap f (same_Some x v at)
-  image_is none (x ∷ vs) (suc i) v at = image_is none vs i v at
-
-  -- a write among the images
-  pub images_set : (vs : List V) (i : ℕ) (w : V) → map f (slice_set vs i w) ≡ slice_set (map f vs) i (f w)
-  images_set [] i w = refl
-  images_set (x ∷ vs) zero w = refl
-  images_set (x ∷ vs) (suc i) w = ap (λ k. f x ∷ k) (images_set vs i w)

@@ -10,12 +10,8 @@ use Rattle.nqs_base_tables.specs.Table.{Roomy, change_first}
 use Rattle.nqs_base_tables.proofs.KeyLemmas.{changed_at, found_changed, found_other, place_is}
 use Rattle.nqs_index.specs.declared.classes.ClassLine.{ClassLine}
 use Rattle.nqs_index.specs.declared.lines.QueueLines.{QueueLines}
-use Rattle.nqs_index.specs.declared.line.Entry.{Entry}
-use Rattle.nqs_index.specs.Classes.{with_placed, PutsAt, Stays}
-use Rattle.nqs_index.specs.Indexed.{lists_of, entered_at, entered}
-use Rattle.nqs_index.specs.Lines.{placed}
 use Rattle.nqs_index.specs.QueueLines.{is_queue, lines_for, classes_under, with_classes, BecomesAt}
-use Rattle.nqs_index.proofs.PlaceLemmas.{found_at, change_same, set_twice, set_same, image_get, image_of, image_is, images_set}
+use Rattle.nqs_index.proofs.PlaceLemmas.{found_at, change_same, set_twice}
 
 -- the lines of a queue after a change of one queue's
 changed : (k : Roomy ClassLine) (q queue : List ℕ) (ls : List QueueLines)
@@ -107,42 +103,3 @@ module _ (ls mid new : List QueueLines) (i : ℕ) (l e : QueueLines) (k : Roomy 
         back ∙ ap (λ m. slice_set m i (with_classes k l)) lent ∙ set_twice ls i e (with_classes k l)
             ∙ ap (λ (q : QueueLines). slice_set ls i (with_classes k q)) same,
       )
-
--- the lines of a queue, as lists
-abbrev listed : QueueLines → List (List Entry)
-listed q = lists_of q.classes.items
-
--- the line at a place of the queue at a place
-module _ (ls : List QueueLines) (queue class : ℕ) (queue_within : queue < length (map listed ls))
-    (class_within : class < length (slice_index_or (map listed ls) queue [])) where
-  pub queue_at : (q : QueueLines) × (slice_get ls queue ≡ Some q)
-  queue_at = image_of listed ls queue queue_within
-
-  queue_is : slice_index_or (map listed ls) queue [] ≡ listed queue_at.0
-  queue_is = image_is listed [] ls queue queue_at.0 queue_at.1
-
-  pub line_at : (l : ClassLine) × (slice_get queue_at.0.classes.items class ≡ Some l)
-  line_at = image_of (λ (l : ClassLine). l.line) queue_at.0.classes.items class (subst (λ k. class < length k) queue_is class_within)
-
-  pub line_is : slice_index_or (slice_index_or (map listed ls) queue []) class [] ≡ line_at.0.line
-  line_is = ap (λ k. slice_index_or k class []) queue_is ∙ image_is (λ (l : ClassLine). l.line) [] queue_at.0.classes.items class line_at.0 line_at.1
-
-  -- an entry more in it
-  pub lines_entered : (x : Entry) (new : List QueueLines) → BecomesAt queue (PutsAt class x) ls new → map listed new ≡ entered queue class x (map listed ls)
-  lines_entered x new becomes =
-      let q = queue_at.0 in
-      let k = becomes q queue_at.1 in
-      let inner : lists_of k.0.items ≡ entered_at class x (listed q) =
-      ap lists_of (k.1 line_at.0 line_at.1)
-      ∙ images_set (λ (l : ClassLine). l.line) q.classes.items class (with_placed x line_at.0)
-      ∙ ap (λ es. slice_set (listed q) class (placed x es)) (sym (image_is (λ (l : ClassLine). l.line) [] q.classes.items class line_at.0 line_at.1)) in
-      ap (map listed) k.2 ∙ images_set listed ls queue (with_classes k.0 q) ∙ (λ j. slice_set (map listed ls) queue (inner j))
-      ∙ ap (λ m. slice_set (map listed ls) queue (entered_at class x m)) (sym queue_is)
-
-  -- no change
-  pub lines_stay : (new : List QueueLines) → BecomesAt queue Stays ls new → map listed new ≡ map listed ls
-  lines_stay new becomes =
-      let q = queue_at.0 in
-      let k = becomes q queue_at.1 in
-      ap (map listed) k.2 ∙ images_set listed ls queue (with_classes k.0 q) ∙ (λ j. slice_set (map listed ls) queue (lists_of (k.1 j)))
-      ∙ set_same (map listed ls) queue (listed q) (image_get listed ls queue q queue_at.1)

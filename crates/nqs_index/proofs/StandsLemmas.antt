@@ -1,5 +1,5 @@
 -- An index with one seat more, or less.
-use Rattle.std.proofs.Common.{◌≡◌, ℕ, ◌+◌, ◌-◌, ◌<◌, ◌≤◌, Bool, true, false, ◌&&◌, List, [], ◌∷◌, ◌++◌, length, take, get_or, zero, suc}
+use Rattle.std.proofs.Common.{◌≡◌, ℕ, ◌+◌, ◌-◌, ◌<◌, ◌≤◌, ◌^◌, Bool, true, false, ◌&&◌, List, [], ◌∷◌, ◌++◌, length, take, get_or, zero, suc}
 use Rattle.std.proofs.Common.{refl, sym, ap, subst, ◌∙◌, arith}
 use Rattle.std.proofs.lemmas.List.{take_more}
 use Rattle.nqs_types.specs.Ids.{id_eq}
@@ -17,10 +17,10 @@ use Rattle.nqs_index.specs.QueueLines.{entered_if, taken_if}
 use Rattle.nqs_index.specs.Indexed.{counted_in, classes_in, running_in, Stands}
 use Rattle.nqs_index.specs.Numbers.{number, IsMore}
 use Rattle.nqs_index.specs.Seats.{entry_of, waits_in, counts_for}
-use Rattle.nqs_index.specs.Tallies.{one}
+use Rattle.nqs_index.specs.Tallies.{one, CanAdd}
 use Rattle.nqs_index.proofs.ClassLemmas.{class_itself, entry_itself, number_entered, order_entered, filled_entered, apart_entered}
 use Rattle.nqs_index.proofs.ClassLemmas.{number_left, order_left_in, filled_left, apart_left}
-use Rattle.nqs_index.proofs.Numbers.{more_behind}
+use Rattle.nqs_index.proofs.Numbers.{more_behind, number_within}
 use Rattle.nqs_index.proofs.RunLemmas.{id_itself}
 
 entered_number : (test : Class → Entry → Bool) (c : Class) (x : Entry) (b : Bool) (ls : List ClassLine)
@@ -116,6 +116,26 @@ module _ (i j : Index) (t : Seat) (ts us : List Seat) (stands : Stands i us) (mo
           → (q : List ℕ) → P (classes_in q j)
       kept P keeps all q = subst P (sym (lines q)) (left_keeps P t.class (entry_of t) keeps (waits_in q t) (classes_in q i) (all q))
 
+-- by each test there are at most as many as can be told
+module _ (t : Seat) (ts us : List Seat) (more : IsMore t ts us) (few : length us < 2 ^ 64) where
+  -- a seat more can be counted
+  pub can_count : (i : Index) → Stands i ts → CanAdd (λ k. one (counts_for k t)) i.counters.items
+  can_count i stands k =
+      let a : counted_in k i ≡ number (counts_for k) ts = stands.counts k in
+      let b = more (counts_for k) in
+      let c = number_within (counts_for k) us in
+      omega (arith, a, b, c, few)
+
+  -- and so can one that runs
+  pub can_run : (i : Index) → Stands i ts → is_running t.state ≡ true → number (id_eq t.id) (running_in i) + 1 < 2 ^ 64
+  can_run i stands runs =
+      let a = stands.running (id_eq t.id) in
+      let b : number (λ u. is_running u.state && id_eq t.id u.id) us ≡ number (λ u. is_running u.state && id_eq t.id u.id) ts + 1
+      = more (λ u. is_running u.state && id_eq t.id u.id)
+      ∙ (λ j. number (λ u. is_running u.state && id_eq t.id u.id) ts + one (runs j && id_itself t.id j)) in
+      let c = number_within (λ u. is_running u.state && id_eq t.id u.id) us in
+      omega (arith, a, b, c, few)
+
 -- one more of a list was gone over
 pub more_taken : {A : Type 0} (xs : List A) (n : ℕ) (x : A) → n < length xs → x ≡ get_or xs n x → IsMore x (take n xs) (take (n + 1) xs)
 more_taken xs n x within is = subst (IsMore x (take n xs)) (ap (λ y. take n xs ++ y ∷ []) is ∙ sym (take_more xs n x within)) (more_behind x (take n xs))
@@ -126,3 +146,10 @@ all_taken [] zero le = refl
 all_taken [] (suc n) le = refl
 all_taken (x ∷ xs) zero le = absurd (let no : ⊥ = omega arith in no)
 all_taken (x ∷ xs) (suc n) le = ap (λ l. x ∷ l) (all_taken xs n (omega arith))
+
+-- what was gone over is no more than all
+pub taken_within : {A : Type 0} (xs : List A) (n : ℕ) → length (take n xs) ≤ length xs
+taken_within [] zero = omega arith
+taken_within [] (suc n) = omega arith
+taken_within (x ∷ xs) zero = omega arith
+taken_within (x ∷ xs) (suc n) = let rest = taken_within xs n in omega (arith, rest)

@@ -1,5 +1,5 @@
 -- Counters: what a change or a gain of one leaves of the counts.
-use Rattle.std.proofs.Common.{◌≡◌, ℕ, ◌+◌, ◌-◌, Bool, true, false, List, [], ◌∷◌, ◌++◌, find, Option, None, Some, is_some, option_map, refl, sym, ap, ◌∙◌}
+use Rattle.std.proofs.Common.{◌≡◌, ℕ, ◌+◌, ◌-◌, ◌<◌, ◌^◌, Bool, true, false, List, [], ◌∷◌, ◌++◌, find, Option, None, Some, is_some, option_map, refl, sym, ap, ◌∙◌}
 use Rattle.std.proofs.Common.{arith, if◌then◌else◌, true≢false}
 use Rattle.std.specs.Prelude.{cond}
 use Rattle.std.specs.List.{list_any}
@@ -8,7 +8,7 @@ use Rattle.nqs_base_tables.proofs.TableLemmas.{is_some-find}
 use Rattle.nqs_base_tables.proofs.KeyLemmas.{found_changed, found_other, found_behind, found_before}
 use Rattle.nqs_index.specs.declared.tally.Tally.{Tally}
 use Rattle.nqs_index.specs.declared.tally.Counter.{Counter}
-use Rattle.nqs_index.specs.Tallies.{tally_eq, tally_exact, tally_equiv, is_counter, with_count, with_less, counted, count_of, one}
+use Rattle.nqs_index.specs.Tallies.{tally_eq, tally_exact, tally_equiv, is_counter, with_count, with_less, counted, count_of, one, CanAdd, Adds}
 
 -- another tally counts as before
 other : (g : Counter → Counter) → ((c : Counter) → (g c).tally ≡ c.tally) → (k tally : Tally) (cs : List Counter) → tally_eq k tally ≡ false
@@ -67,3 +67,23 @@ count_raised k tally old new n is h = h ∙ by (tally_eq k tally) refl
     by : (b : Bool) → tally_eq k tally ≡ b → (if b then n else count_of k old) ≡ count_of k old + one b
     by true e = is ∙ ap (λ t. count_of t old + 1) (sym (tally_exact k tally e))
     by false e = omega arith
+
+module _ (f g : Tally → ℕ) (old mid : List Counter) (can : CanAdd (λ k. f k + g k) old) where
+  -- of two that can be added the first can, and then the second
+  pub can_first : CanAdd f old
+  can_first k = let c = can k in omega (arith, c)
+
+  pub can_second : Adds f old mid → CanAdd g mid
+  can_second first k = let c = can k in let a = first k in omega (arith, c, a)
+
+-- both were added
+pub adds_both : (f g : Tally → ℕ) (old mid new : List Counter) → Adds f old mid → Adds g mid new → Adds (λ k. f k + g k) old new
+adds_both f g old mid new first second k = let a = first k in let b = second k in omega (arith, a, b)
+
+module _ (f g : Tally → ℕ) (same : (k : Tally) → f k ≡ g k) (old : List Counter) where
+  -- what adds alike can be added alike
+  pub can_alike : CanAdd f old → CanAdd g old
+  can_alike can k = let c = can k in let e = same k in omega (arith, c, e)
+
+  pub adds_alike : (new : List Counter) → Adds g old new → Adds f old new
+  adds_alike new adds k = adds k ∙ ap (λ n. count_of k old + n) (sym (same k))

@@ -125,7 +125,3 @@ is_left_empty c ls = is_empty_line (find (is_class c) ls)
 -- the lines become those with an entry more
 abbrev pub IsEntered : Class → Entry → List ClassLine → List ClassLine → Type 0
 IsEntered c x old new = new ≡ entered_in c x old
-
--- no line changes
-abbrev pub Stays : List ClassLine → List ClassLine → Type 0
-Stays old new = new ≡ old

@@ -1,5 +1,5 @@
 -- What an index keeps of rows.
-use Rattle.std.specs.Prelude.{◌≡◌, ℕ, Bool, ◌&&◌, List, [], map, slice_set, slice_index_or}
+use Rattle.std.specs.Prelude.{◌≡◌, ℕ, nat_lt, Bool, ◌&&◌, ◌||◌, List, length, map}
 use Rattle.nqs_types.specs.RowStates.{is_running}
 use Rattle.nqs_types.specs.declared.ids.RequestId.{RequestId}
 use Rattle.nqs_types.specs.declared.request.Row.{Row}
@@ -9,9 +9,7 @@ use Rattle.nqs_index.specs.declared.line.Entry.{Entry}
 use Rattle.nqs_index.specs.declared.index.Index.{Index}
 use Rattle.nqs_index.specs.declared.seat.Seat.{Seat}
 use Rattle.nqs_index.specs.declared.tally.Tally.{Tally}
-use Rattle.nqs_index.specs.declared.lines.QueueLines.{QueueLines}
 use Rattle.nqs_index.specs.Classes.{number_in, AreInOrder, AreFilled, AreApart}
-use Rattle.nqs_index.specs.Lines.{placed}
 pub use Rattle.nqs_index.specs.Numbers.{number, IsMore}
 use Rattle.nqs_index.specs.QueueLines.{classes_under}
 use Rattle.nqs_index.specs.Runs.{ids_of}
@@ -26,25 +24,13 @@ counted_in tally index = count_of tally index.counters.items
 abbrev pub classes_in : List ℕ → Index → List ClassLine
 classes_in queue index = classes_under queue index.lines.items
 
--- the lines of some classes
-abbrev pub lists_of : List ClassLine → List (List Entry)
-lists_of = map (λ l. l.line)
-
--- the lines of an index, of each queue those of its classes
-abbrev pub lines_of : Index → List (List (List Entry))
-lines_of index = map (λ (q : QueueLines). lists_of q.classes.items) index.lines.items
-
 -- the requests that run
 abbrev pub running_in : Index → List RequestId
 running_in index = ids_of index.runs.items
 
--- the lines of a queue, with an entry put where it belongs in the one at a place
-abbrev pub entered_at : ℕ → Entry → List (List Entry) → List (List Entry)
-entered_at class x lines = slice_set lines class (placed x (slice_index_or lines class []))
-
--- the lines of the queues, with an entry put into the line at a place of the queue at a place
-abbrev pub entered : ℕ → ℕ → Entry → List (List (List Entry)) → List (List (List Entry))
-entered queue class x lines = slice_set lines queue (entered_at class x (slice_index_or lines queue []))
+-- the index has more queues with lines, or more counters, than it may have
+abbrev pub is_crowded : Index → Bool
+is_crowded index = nat_lt index.most (length index.lines.items) || nat_lt index.most (length index.counters.items)
 
 -- Each count is that of the seats that it counts. The lines of a queue's classes have just the
 -- entries of those that wait in it, each in the line of its class: by each test as many of the ones

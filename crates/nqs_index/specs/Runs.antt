@@ -1,5 +1,5 @@
 -- The running requests of a host.
-use Rattle.std.specs.Prelude.{◌≡◌, ◌<◌, Bool, ◌&&◌, ◌||◌, ◌==◌, nat_lt, true, List, length, filter, map, Option}
+use Rattle.std.specs.Prelude.{◌≡◌, ℕ, zero, suc, ◌-◌, ◌<◌, Bool, ◌&&◌, ◌||◌, ◌==◌, nat_lt, true, List, [], ◌∷◌, length, filter, Option, None, Some}
 use Rattle.std.specs.Option.{option_map}
 use Rattle.nqs_types.specs.Ids.{id_eq}
 use Rattle.nqs_types.specs.declared.ids.RequestId.{RequestId}
@@ -14,9 +14,28 @@ is_less_id a b = nat_lt a.host.0 b.host.0 || (a.host.0 == b.host.0 && nat_lt a.s
 abbrev pub is_run : RequestId → Run → Bool
 is_run = has_key id_eq (λ r. r.id)
 
--- the requests that run
+-- a request so many times, before others
+abbrev pub times : ℕ → RequestId → List RequestId → List RequestId
+times zero id ids = ids
+times (suc n) id ids = id ∷ times n id ids
+
+-- the requests that run, each as often as rows of it do
 abbrev pub ids_of : List Run → List RequestId
-ids_of = map (λ r. r.id)
+ids_of [] = []
+ids_of (r ∷ rs) = times (suc r.more) r.id (ids_of rs)
+
+-- a run of one row more
+abbrev pub with_more : Run → Run
+with_more r = record { id = r.id; more = suc r.more }
+
+-- a run of one row less
+abbrev pub with_fewer : Run → Run
+with_fewer r = record { id = r.id; more = r.more - 1 }
+
+-- whether a run is of one row, if there is one
+abbrev pub is_single : Option Run → Bool
+is_single None = true
+is_single (Some r) = r.more == 0
 
 -- the least of the requests that run
 abbrev pub least_of : List Run → Option RequestId

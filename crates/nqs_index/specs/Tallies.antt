@@ -1,5 +1,5 @@
 -- Counts of rows, each under what it counts.
-use Rattle.std.specs.Prelude.{◌≡◌, ℕ, ◌-◌, Bool, true, false, ◌&&◌, if◌then◌else◌, List, ◌++◌, find, Option, None, Some}
+use Rattle.std.specs.Prelude.{◌≡◌, ℕ, ◌+◌, ◌-◌, ◌<◌, ◌^◌, Bool, true, false, ◌&&◌, if◌then◌else◌, List, ◌++◌, find, Option, None, Some}
 use Rattle.std.specs.Cmp.{IsEquivalence, both_ways}
 use Rattle.std.specs.Cmp.Lexicographic.{nat_list_eq_equiv}
 use Rattle.std.specs.Hash as fed
@@ -39,6 +39,14 @@ counted (Some c) = c.count
 -- how many are counted under a tally
 abbrev pub count_of : Tally → List Counter → ℕ
 count_of tally counters = counted (find (is_counter tally) counters)
+
+-- each count, with what is added to it, is one that can be told
+abbrev pub CanAdd : (Tally → ℕ) → List Counter → Type 0
+CanAdd more counters = (tally : Tally) → count_of tally counters + more tally < 2 ^ 64
+
+-- each count has more by what is added to it
+abbrev pub Adds : (Tally → ℕ) → List Counter → List Counter → Type 0
+Adds more old new = (tally : Tally) → count_of tally new ≡ count_of tally old + more tally
 
 -- one where it is so, and else none
 abbrev pub one : Bool → ℕ

@@ -1,6 +1,6 @@
 //! The lines of a queue, one for each class of its waiting requests.
 
-ghost use Rattle.std.specs.Prelude.{◌≡◌, ◌≤◌, ◌<◌, ◌+◌, ◌-◌, ◌*◌, ◌^◌, [], ◌∷◌, ◌++◌, length, position, slice_get, true, false, Some, IfSome, OnOk, OnErr};
+ghost use Rattle.std.specs.Prelude.{◌≡◌, ◌≤◌, ◌<◌, ◌+◌, ◌-◌, ◌*◌, ◌^◌, [], ◌∷◌, ◌++◌, length, position, slice_get, true, false, Some, OnOk, OnErr};
 ghost use Rattle.std.specs.List.{list_any};
 ghost use Rattle.nqs_index.specs.Lines.{entry_at};
 ghost use Rattle.nqs_index.specs.Classes.{is_class, new_line, with_taken, with_class, entered_in, taken_from, is_left_empty, PutsAt};
@@ -69,64 +69,74 @@ fn counted_put<L: Ledger>(
     key: Key,
     id: RequestId,
     blank: Blank,
-) -> bool
+) -> Result<(), Memory>
     requires within { place < length classes.old.items }
     requires name { blank.name ≡ L.name }
     requires parts { blank.parts ≡ L.parts }
     requires some { 0 < L.parts }
-    ensures { result ≡ true → PutsAt place (entry_at key id) classes.old.items classes.new.items }
+    ensures { OnOk result (PutsAt place (entry_at key id) classes.old.items classes.new.items) }
 {
     let mut steps = Steps::<L>::new(blank);
-    put_at(classes, place, key, id, &mut steps).is_ok()
+    put_at(classes, place, key, id, &mut steps)
 }
 
-// Puts an entry into the line at a place. False where memory is wanting.
-fn put_here(classes: &mut Classes, place: usize, key: Key, id: RequestId) -> bool
+// Puts an entry into the line at a place.
+fn put_here(classes: &mut Classes, place: usize, key: Key, id: RequestId) -> Result<(), Memory>
     requires { place < length classes.old.items }
-    ensures { result ≡ true → PutsAt place (entry_at key id) classes.old.items classes.new.items }
+    ensures { OnOk result (PutsAt place (entry_at key id) classes.old.items classes.new.items) }
 {
     counted_put::<Brand>(classes, place, key, id, Blank::new(1))
 }
 
-// A class that has no line gets an empty one, and its place is told. None where memory is wanting.
-fn add(classes: &mut Classes, class: &Class) -> Option<usize>
-    requires { list_any (is_class class.now) classes.old.items ≡ false }
-    ensures items { IfSome result (λ i. classes.new.items ≡ classes.old.items ++ new_line class.now ∷ []) }
-    ensures place { IfSome result (λ i. position (is_class class.now) classes.new.items ≡ Some i) }
-    ensures within { IfSome result (λ i. i < length classes.new.items) }
+// The place of the line of a class that has one.
+fn place_in(classes: &Classes, class: &Class) -> usize
+    requires { list_any (is_class class.now) classes.now.items ≡ true }
+    ensures place { position (is_class class.now) classes.now.items ≡ Some result }
+    ensures within { result < length classes.now.items }
 {
-    let Ok(()) = classes.reserve(1) else {
-        return None;
-    };
+    match classes.place(class) {
+        Some(place) => place,
+        None => unreachable!(),
+    }
+}
+
+// A class that has no line gets an empty one.
+fn add(classes: &mut Classes, class: &Class) -> Result<(), Memory>
+    requires { list_any (is_class class.now) classes.old.items ≡ false }
+    ensures { OnOk result (classes.new.items ≡ classes.old.items ++ new_line class.now ∷ []) }
+{
+    classes.reserve(1)?;
     let line = Line::new(classes.allocator());
     classes.push(ClassLine {
         class: *class,
         line,
     });
-    classes.place(class)
+    Ok(())
 }
 
-// The place of a class's line, which is made where there is none.
-fn place_of(classes: &mut Classes, class: &Class) -> Option<usize>
-    ensures items { IfSome result (λ i. classes.new.items ≡ with_class class.now classes.old.items) }
-    ensures place { IfSome result (λ i. position (is_class class.now) classes.new.items ≡ Some i) }
-    ensures within { IfSome result (λ i. i < length classes.new.items) }
+// A class has a line, which is made where there is none.
+fn ensure(classes: &mut Classes, class: &Class) -> Result<(), Memory>
+    ensures items { OnOk result (classes.new.items ≡ with_class class.now classes.old.items) }
+    ensures there { OnOk result (list_any (is_class class.now) classes.new.items ≡ true) }
 {
     if !classes.has(class) {
         return add(classes, class);
     }
-    classes.place(class)
+    Ok(())
 }
 
-/// Puts an entry into the line of a class, which is made where there is none. False where memory is
-/// wanting.
-pub(crate) fn put(classes: &mut Classes, class: &Class, key: Key, id: RequestId) -> bool
-    ensures { result ≡ true → classes.new.items ≡ entered_in class.now (entry_at key id) classes.old.items }
+/// Puts an entry into the line of a class, which is made where there is none.
+pub(crate) fn put(
+    classes: &mut Classes,
+    class: &Class,
+    key: Key,
+    id: RequestId,
+) -> Result<(), Memory>
+    ensures { OnOk result (classes.new.items ≡ entered_in class.now (entry_at key id) classes.old.items) }
 {
-    match place_of(classes, class) {
-        Some(place) => put_here(classes, place, key, id),
-        None => false,
-    }
+    ensure(classes, class)?;
+    let place = place_in(classes, class);
+    put_here(classes, place, key, id)
 }
 
 fn counted_take<L: Ledger>(line: &mut ClassLine, key: Key, id: RequestId, blank: Blank)

@@ -1,12 +1,12 @@
 //! Counts of rows, each under what it counts.
 
-ghost use Rattle.std.specs.Prelude.{◌≡◌, ◌<◌, ◌+◌, ◌-◌, if◌then◌else◌, true, false};
+ghost use Rattle.std.specs.Prelude.{◌≡◌, ◌<◌, ◌+◌, ◌-◌, ◌^◌, if◌then◌else◌, true, false, OnOk};
 ghost use Rattle.std.specs.List.{list_any};
 ghost use Rattle.std.specs.Cmp.{partial_equiv_from_equiv};
 ghost use Rattle.nqs_base_tables.specs.Table.{change_first};
-ghost use Rattle.nqs_index.specs.Tallies.{tally_eq, tally_equiv, tally_fed, tally_fed_alike, is_counter, with_count, with_less, count_of, one};
+ghost use Rattle.nqs_index.specs.Tallies.{tally_eq, tally_equiv, tally_fed, tally_fed_alike, is_counter, with_count, with_less, count_of, one, CanAdd, Adds};
 
-use nqs_base::{Key, Keyed, Name};
+use nqs_base::{Key, Keyed, Memory, Name};
 use nqs_base_tables::Table;
 use std::hash::{Hash, Hasher};
 
@@ -107,9 +107,6 @@ impl Keyed<Tally> for Counter {
 /// Counts of rows.
 pub type Counters = Table<Tally, Counter>;
 
-/// How many counters there may be.
-const MOST_COUNTERS: usize = 65_536;
-
 /// The count under a tally.
 pub(crate) fn count(counters: &Counters, tally: &Tally) -> usize
     ensures { result ≡ count_of tally.now counters.now.items }
@@ -127,44 +124,44 @@ fn replace(counters: &mut Counters, tally: &Tally, count: usize)
     counters.change(tally, |counter: &mut Counter| counter.count = count);
 }
 
-// A tally that has no counter gets one. False where memory is wanting, or there are too many.
-fn add(counters: &mut Counters, tally: &Tally, count: usize) -> bool
+// A tally that has no counter gets one.
+fn add(counters: &mut Counters, tally: &Tally, count: usize) -> Result<(), Memory>
     requires { list_any (is_counter tally.now) counters.old.items ≡ false }
-    ensures { result ≡ true → (k : Tally) → count_of k counters.new.items ≡ (if tally_eq k tally.now then count else count_of k counters.old.items) }
+    ensures { OnOk result ((k : Tally) → count_of k counters.new.items ≡ (if tally_eq k tally.now then count else count_of k counters.old.items)) }
 {
-    if counters.len() >= MOST_COUNTERS {
-        return false;
-    }
-    let Ok(()) = counters.reserve(1) else {
-        return false;
-    };
+    counters.reserve(1)?;
     counters.push(Counter {
         tally: *tally,
         count,
     });
-    true
+    Ok(())
 }
 
-// The count under a tally becomes this one. False where a new counter can't be had.
-fn set(counters: &mut Counters, tally: &Tally, count: usize) -> bool
-    ensures { result ≡ true → (k : Tally) → count_of k counters.new.items ≡ (if tally_eq k tally.now then count else count_of k counters.old.items) }
+// The count under a tally becomes this one.
+fn set(counters: &mut Counters, tally: &Tally, count: usize) -> Result<(), Memory>
+    ensures { OnOk result ((k : Tally) → count_of k counters.new.items ≡ (if tally_eq k tally.now then count else count_of k counters.old.items)) }
 {
     if !counters.has(tally) {
         return add(counters, tally, count);
     }
     replace(counters, tally, count);
-    true
+    Ok(())
 }
 
-/// Counts one more under a tally. False where the count is at its end, or a new counter can't be
-/// had.
-pub(crate) fn raise(counters: &mut Counters, tally: &Tally) -> bool
-    ensures { result ≡ true → (k : Tally) → count_of k counters.new.items ≡ count_of k counters.old.items + one (tally_eq k tally.now) }
+// One more than the count under a tally, where that can be told.
+fn next(counters: &Counters, tally: &Tally) -> usize
+    ensures { count_of tally.now counters.now.items + 1 < 2 ^ 64 → result ≡ count_of tally.now counters.now.items + 1 }
 {
-    match count(counters, tally).checked_add(1) {
-        Some(count) => set(counters, tally, count),
-        None => false,
-    }
+    count(counters, tally).saturating_add(1)
+}
+
+/// Counts one more under a tally.
+pub(crate) fn raise(counters: &mut Counters, tally: &Tally) -> Result<(), Memory>
+    ensures { CanAdd (λ k. one (tally_eq k tally.now)) counters.old.items
+        → OnOk result (Adds (λ k. one (tally_eq k tally.now)) counters.old.items counters.new.items) }
+{
+    let count = next(counters, tally);
+    set(counters, tally, count)
 }
 
 fn lower_one(counter: &mut Counter)

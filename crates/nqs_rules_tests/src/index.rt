@@ -5,7 +5,7 @@
 use nqs_base::{Memory, Name};
 use nqs_builders::{add_row, row};
 use nqs_index::{Index, Line, Seat};
-use nqs_state::Rows;
+use nqs_state::{Indexed, Rows};
 use nqs_types::{Hold, HostId, RequestId, Row};
 use std::alloc::Global;
 use std::rt::HostRuntime;
@@ -54,18 +54,18 @@ fn numbers(index: &Index) -> [u32; 4] {
 }
 
 // Priorities 5, 63 and 63 with arrivals 1, 3 and 2, and one that is held.
-fn four_enter(alloc: Global, index: &mut Index) -> bool {
-    index.enter(&seat(alloc, 5, 1, Hold::No))
-        && index.enter(&seat(alloc, 63, 3, Hold::No))
-        && index.enter(&seat(alloc, 63, 2, Hold::No))
-        && index.enter(&seat(alloc, 63, 4, Hold::User))
+fn four_enter(alloc: Global, index: &mut Index) -> Result<(), Memory> {
+    index.enter(&seat(alloc, 5, 1, Hold::No))?;
+    index.enter(&seat(alloc, 63, 3, Hold::No))?;
+    index.enter(&seat(alloc, 63, 2, Hold::No))?;
+    index.enter(&seat(alloc, 63, 4, Hold::User))
 }
 
 #[test]
 fn greater_priorities_first_and_then_earlier_arrivals(rt: HostRuntime) {
     let alloc = rt.alloc();
     let mut index = Index::empty(alloc);
-    let entered = four_enter(alloc, &mut index);
+    let entered = four_enter(alloc, &mut index).is_ok();
     let whole = numbers(&index);
     index.leave(&seat(alloc, 63, 3, Hold::No));
     let left = numbers(&index);
@@ -81,10 +81,10 @@ fn earlier(alloc: Global, arrival: u32, earliest: u64) -> Seat {
 }
 
 // Two of one class around one of another.
-fn three_enter(alloc: Global, index: &mut Index) -> bool {
-    index.enter(&earlier(alloc, 1, 7))
-        && index.enter(&earlier(alloc, 2, 8))
-        && index.enter(&earlier(alloc, 3, 7))
+fn three_enter(alloc: Global, index: &mut Index) -> Result<(), Memory> {
+    index.enter(&earlier(alloc, 1, 7))?;
+    index.enter(&earlier(alloc, 2, 8))?;
+    index.enter(&earlier(alloc, 3, 7))
 }
 
 // How many requests wait in each of the first two classes of `jobs`.
@@ -103,7 +103,7 @@ fn lengths(index: &Index) -> [usize; 2] {
 fn a_class_lasts_as_long_as_a_request_of_it_waits(rt: HostRuntime) {
     let alloc = rt.alloc();
     let mut index = Index::empty(alloc);
-    let entered = three_enter(alloc, &mut index);
+    let entered = three_enter(alloc, &mut index).is_ok();
     let whole = lengths(&index);
     index.leave(&earlier(alloc, 1, 7));
     let fewer = lengths(&index);
@@ -116,11 +116,11 @@ fn a_class_lasts_as_long_as_a_request_of_it_waits(rt: HostRuntime) {
     );
 }
 
-// The line of `jobs` in the index that rows keep; where they keep none, nines.
+// The line of `jobs` in the index that rows keep; where it isn't there, nines.
 fn kept(rows: &Rows) -> [u32; 4] {
     match rows.index() {
-        Some(index) => numbers(index),
-        None => [9; 4],
+        Indexed::There(index) => numbers(index),
+        _ => [9; 4],
     }
 }
 

@@ -1,2 +1,3 @@
+mod IndexedLemmas
 pub mod LeastLemmas
 pub mod RowLemmas

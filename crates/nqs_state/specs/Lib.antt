@@ -1,4 +1,5 @@
 pub mod State
 pub mod Keys
+pub mod Kept
 pub mod Least
 pub mod Room

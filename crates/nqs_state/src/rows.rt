@@ -1,7 +1,7 @@
 //! The requests of a host: a table of them, which is changed by the calls here alone, and beside it
-//! an index that stands for the rows. The index is only for speed: where it can't be had, for want
-//! of memory or since it has too many names, there is none, and no call fails for that. While a
-//! host is told by its journal there is none either: its boot makes it, behind all records.
+//! an index that stands for the rows. The index is only for speed: where memory is refused for it
+//! there is none, but that want, and no call fails for that. While a host is told by its journal
+//! none is kept: its boot makes it, behind all records.
 ghost use Rattle.std.specs.Prelude.{◌≡◌, ℕ, ◌+◌, ◌≤◌, ◌<◌, [], ◌∷◌, ◌++◌, length, map, position, find, Some, None, OnOk, IfSome, Bool};
 ghost use Rattle.std.specs.Prelude.{List, Option, Contains, filter, if◌then◌else◌, slice_get, true, false};
 ghost use Rattle.std.specs.Option.{option_copied, option_map};
@@ -14,10 +14,11 @@ ghost use Rattle.nqs_types.specs.declared.request.Row.{Row};
 ghost use Rattle.nqs_base.specs.declared.extent.Extent.{Extent};
 ghost use Rattle.nqs_state.specs.Keys.{is_row};
 ghost use Rattle.nqs_state.specs.Least.{runs_now, least_running};
-ghost use Rattle.nqs_index.specs.declared.seat.Seat.{Seat as SeatValue};
 ghost use Rattle.nqs_index.specs.Seats.{seat_of};
-ghost use Rattle.nqs_index.specs.Indexed.{IsMore, Stands, StandsForIndex};
+ghost use Rattle.nqs_index.specs.Indexed.{StandsForIndex};
+ghost use Rattle.nqs_state.specs.Kept.{IfThere, is_kept, kept, table_of};
 
+use crate::indexed::Indexed;
 use nqs_base_tables::Table;
 use nqs_index::{Index, Seat, is_less};
 use nqs_types::{RequestId, Row, RowState};
@@ -27,76 +28,25 @@ use std::marker::Model;
 /// The requests of a host in order of their coming, each found by its id.
 pub struct Rows {
     table: Table<RequestId, Row>,
-    /// Stands for the rows, where there is one.
-    index: Option<Index>,
-    /// Whether one is to be. If not, the next revision makes one.
-    is_indexed: bool,
+    index: Indexed,
 }
 
 // Written out, so that the rows are let go by one call.
 impl Drop for Rows {
     fn drop(self) {
-        let Rows {
-            table: _,
-            index: _,
-            is_indexed: _,
-        } = self;
+        let Rows { table: _, index: _ } = self;
     }
 }
 
 impl Model for Rows {
-    ghost use Rattle.std.specs.Prelude.{IfSome};
-    ghost use Rattle.nqs_base_tables.specs.Table.{Roomy};
     ghost use Rattle.nqs_index.specs.Indexed.{StandsForIndex};
-    ghost use Rattle.nqs_types.specs.declared.request.Row.{Row};
-    ghost use Rattle.nqs_base.specs.declared.extent.Extent.{Extent};
+    ghost use Rattle.nqs_state.specs.Kept.{Kept, IfThere, is_kept, kept};
 
-    ghost Value = { Roomy (Row Extent) };
+    ghost Value = { Kept };
 
-    ghost view = { λ r. r.table };
+    ghost view = { λ r. kept (is_kept r.index) r.table };
 
-    ghost invariant = { λ r. IfSome r.index (λ i. StandsForIndex i r.table.items) };
-}
-
-// A row comes into the index, where there is one. An index that can't take it is let go.
-fn enter(index: &mut Option<Index>, seat: &Seat)
-    ensures { (ts us : List SeatValue) → IfSome index.old (λ i. Stands i ts) → IsMore seat.now ts us → IfSome index.new (λ i. Stands i us) }
-{
-    if !takes(index, seat) {
-        *index = None;
-    }
-}
-
-// Whether the index, where there is one, took the row.
-fn takes(index: &mut Option<Index>, seat: &Seat) -> bool
-    ensures { (ts us : List SeatValue) → IfSome index.old (λ i. Stands i ts) → IsMore seat.now ts us → result ≡ true → IfSome index.new (λ i. Stands i us) }
-{
-    match index {
-        Some(index) => index.enter(seat),
-        None => true,
-    }
-}
-
-// A row goes out of the index, where there is one.
-fn leave(index: &mut Option<Index>, seat: &Seat)
-    ensures { (ts us : List SeatValue) → IfSome index.old (λ i. Stands i us) → IsMore seat.now ts us → IfSome index.new (λ i. Stands i ts) }
-{
-    match index {
-        Some(index) => index.leave(seat),
-        None => {}
-    }
-}
-
-// A row's seat becomes another one. One that is the same leaves the index alone.
-fn reseat(index: &mut Option<Index>, before: &Seat, after: &Seat)
-    ensures { (ts us vs : List SeatValue) → IfSome index.old (λ i. Stands i us) → IsMore before.now ts us → IsMore after.now ts vs
-        → IfSome index.new (λ i. Stands i vs) }
-{
-    if before.is(after) {
-        return;
-    }
-    leave(index, before);
-    enter(index, after);
+    ghost invariant = { λ r. IfThere (λ i. StandsForIndex i r.table.items) r.index };
 }
 
 // The seat of the row with this id.
@@ -161,36 +111,36 @@ fn least_by_index<'a>(index: &Index, table: &'a Table<RequestId, Row>) -> Option
 impl Rows {
     /// No rows.
     pub fn new(alloc: Global) -> Self
-        ensures { result.items ≡ [] }
+        ensures items { result.items ≡ [] }
+        ensures indexed { result.is_indexed ≡ true }
     {
         Rows {
             table: Table::new(alloc),
-            index: Some(Index::empty(alloc)),
-            is_indexed: true,
+            index: Indexed::There(Index::empty(alloc)),
         }
     }
 
-    /// The rows of a table, which have no index until they are revised.
+    /// The rows of a table, which keep no index until they are revised.
     pub fn from_table(table: Table<RequestId, Row>) -> Self
-        ensures { result ≡ table }
+        ensures { result ≡ kept false table }
     {
         Rows {
             table,
-            index: None,
-            is_indexed: false,
+            index: Indexed::NotYet,
         }
     }
 
-    /// No rows, which have no index until they are revised.
+    /// No rows, which keep no index until they are revised.
     pub fn unindexed(alloc: Global) -> Self
-        ensures { result.items ≡ [] }
+        ensures items { result.items ≡ [] }
+        ensures indexed { result.is_indexed ≡ false }
     {
         Rows::from_table(Table::new(alloc))
     }
 
     /// The rows as a table, for calls that any table may have.
     pub fn table(&self) -> &Table<RequestId, Row>
-        ensures { result.now ≡ self.now }
+        ensures { result.now ≡ table_of self.now }
     {
         &self.table
     }
@@ -207,23 +157,25 @@ impl Rows {
         self.table.len()
     }
 
-    /// The index of the rows, if there is one.
-    pub fn index(&self) -> Option<&Index>
-        ensures { IfSome result (λ i. StandsForIndex i.now self.now.items) }
+    /// The index of the rows. Where one is kept it is there, unless memory was refused for it.
+    pub fn index(&self) -> &Indexed
+        ensures stands { IfThere (λ i. StandsForIndex i self.now.items) result.now }
+        ensures kept { is_kept result.now ≡ self.now.is_indexed }
     {
-        self.index.as_ref()
+        &self.index
     }
 
-    /// Makes room for more rows, and where an index is to be and there is none, also that, if
-    /// memory allows: all rows are sorted for it. An `Err` leaves the rows as they were.
+    /// Makes room for more rows, and where memory was refused for the index, asks for that once
+    /// more: all rows are sorted for it. An `Err` leaves the rows as they were.
     pub fn reserve(&mut self, additional: usize) -> Result<(), AllocError>
         ensures items { self.new.items ≡ self.old.items }
         ensures ok { OnOk result (additional ≤ self.new.spare) }
         ensures room { self.old.spare ≤ self.new.spare }
+        ensures indexed { self.new.is_indexed ≡ self.old.is_indexed }
     {
         self.table.reserve(additional)?;
-        if self.is_indexed && self.index.is_none() {
-            self.index = Index::build(self.table.allocator(), &self.table);
+        if self.index.is_lacking() {
+            self.index = Indexed::of(&self.table);
         }
         Ok(())
     }
@@ -264,10 +216,11 @@ impl Rows {
         requires absent { list_any (is_row row.id) self.old.items ≡ false }
         ensures items { self.new.items ≡ self.old.items ++ row ∷ [] }
         ensures room { self.old.spare ≤ self.new.spare + 1 }
+        ensures indexed { self.new.is_indexed ≡ self.old.is_indexed }
     {
         let seat = Seat::of(&row);
         self.table.push(row);
-        enter(&mut self.index, &seat);
+        self.index.enter(&seat, &self.table);
     }
 
     /// Changes the row with this id, if there is one, and not its id.
@@ -277,8 +230,9 @@ impl Rows {
         ensures changed { (g : Row Extent → Row Extent) → ((v w : Row Extent) → find (is_row key.now) self.old.items ≡ Some v
             → FnOnceReturnsAtMut F.FnOnce f v tt w → w ≡ g v) → self.new.items ≡ change_first (is_row key.now) g self.old.items }
         ensures room { self.old.spare ≤ self.new.spare }
+        ensures indexed { self.new.is_indexed ≡ self.old.is_indexed }
     {
-        if self.index.is_none() {
+        if !self.index.is_there() {
             self.table.change(key, f);
             return;
         }
@@ -289,23 +243,24 @@ impl Rows {
         let Some(after) = seat_at(&self.table, key) else {
             unreachable!();
         };
-        reseat(&mut self.index, &before, &after);
+        self.index.reseat(&before, &after, &self.table);
     }
 
     /// Removes the row with this id, if there is one. The later ones move down.
     pub fn remove_key(&mut self, key: &RequestId)
         ensures items { self.new.items ≡ without_first (is_row key.now) self.old.items }
         ensures room { self.old.spare ≤ self.new.spare }
+        ensures indexed { self.new.is_indexed ≡ self.old.is_indexed }
     {
         let Some(seat) = seat_at(&self.table, key) else {
             return;
         };
         self.table.remove_key(key);
-        leave(&mut self.index, &seat);
+        self.index.leave(&seat);
     }
 
     /// Goes over the rows in order: each is changed, and kept where the answer is true. No id
-    /// changes. The index is made anew, also where there was to be none until now.
+    /// changes. The index is made anew, also where none was kept until now.
     pub fn revise<F: FnMut(&RequestId, &mut Row) -> bool>(&mut self, f: F)
         requires may { (s : _) (x y : _) → F.pre s x y }
         requires keeps { (s t : F) (k : RequestId) (v w : Row Extent) (b : Bool) → CalledAtPair F.FnMut s k v b w t → w.id ≡ v.id }
@@ -316,10 +271,10 @@ impl Rows {
         ensures filtered { (p : Row Extent → Bool) → ((k : RequestId) (v w : Row Extent) (b : Bool) (t : F) → CalledAtPair F.FnMut f k v b w t
             → (b ≡ p v) × (w ≡ v) × (t ≡ f)) → self.new.items ≡ filter p self.old.items }
         ensures room { self.old.spare ≤ self.new.spare }
+        ensures indexed { self.new.is_indexed ≡ true }
     {
         self.table.revise(f);
-        self.index = Index::build(self.table.allocator(), &self.table);
-        self.is_indexed = true;
+        self.index = Indexed::of(&self.table);
     }
 
     /// Whether a row has this id.
@@ -377,8 +332,8 @@ impl Rows {
         ensures { option_copied result ≡ least_running self.now.items }
     {
         match &self.index {
-            Some(index) => least_by_index(index, &self.table),
-            None => least_of(&self.table),
+            Indexed::There(index) => least_by_index(index, &self.table),
+            _ => least_of(&self.table),
         }
     }
 }

@@ -1,4 +1,5 @@
 use Rattle.std.proofs.Common.{refl}
+use Rattle.std.proofs.lemmas.Result.{on_ok_weaker}
 use Rattle.nqs_index.specs.declared.lines.QueueLines.{QueueLines}
 use Rattle.nqs_index.specs.Lines.{entry_at}
 use Rattle.nqs_index.proofs.PlaceLemmas.{key_kept, image_get}
@@ -17,6 +18,8 @@ exchange-requires-2-clause-same c =
     refl)
 
 pub returns : goal.returns
-returns c done = lent_back c.args.lines.now.items c.exchange.new.self.items c.exchange-2.new.self.items c.args.place c.exchange.new.value
+returns c = on_ok_weaker c.put-put.result
+    (λ is. lent_back c.args.lines.now.items c.exchange.new.self.items c.exchange-2.new.self.items c.args.place c.exchange.new.value
     (record { name = c.at.result.now.name; classes = c.new.result }) c.put-put.new.classes c.exchange.ensures.out c.exchange.ensures.items
-    c.exchange-2.ensures.items (IsEntered c.args.class.now (entry_at c.args.key c.args.id)) (c.put-put.ensures done)
+    c.exchange-2.ensures.items (IsEntered c.args.class.now (entry_at c.args.key c.args.id)) is)
+    c.put-put.ensures

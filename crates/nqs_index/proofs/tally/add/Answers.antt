@@ -4,6 +4,6 @@ use Rattle.nqs_index.proofs.TallyLemmas.{count_added}
 use Rattle.nqs_index.proofs.tally.add.Goals as goal
 
 pub returns : goal.returns
-returns c done k =
+returns c k =
     ap (count_of k) (c.push.ensures.items ∙ ap (λ cs. cs ++ record { tally = c.args.tally.now; count = c.args.count } ∷ []) c.reserve.ensures.items)
     ∙ count_added c.args.count k c.args.tally.now c.args.counters.now.items c.requires

@@ -4,6 +4,6 @@ use Rattle.nqs_index.proofs.TallyLemmas.{count_changed}
 use Rattle.nqs_index.proofs.tally.set.Goals as goal
 
 pub returns : goal.returns
-returns c done k =
+returns c k =
     ap (count_of k) c.replace.ensures
     ∙ count_changed c.args.count k c.args.tally.now c.args.counters.now.items (sym c.has.ensures ∙ c.if-not-has.false)

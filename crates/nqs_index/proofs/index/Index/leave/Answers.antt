@@ -8,8 +8,8 @@ returns c ts us stands more =
       counters = c.count_out.new.counters;
       lines = c.step_out.new.lines;
       nobody = c.args.self.now.nobody;
-      runs =
-          c.end_run.new.runs;
+      runs = c.end_run.new.runs;
+      most = c.args.self.now.most;
     } in
     left c.args.self.now new c.args.seat.now ts us
     stands more c.count_out.ensures c.step_out.ensures c.end_run.ensures

@@ -23,7 +23,7 @@ invariant_of-self-2 g c =
     let test = is_row c.args.key.now in
     let rows = c.self.inside.table.items in
     let before = sym c.in-Some.is ∙ c.seat_at.ensures in
-    c.reseat.ensures (map seat_of (without_first test rows)) (map seat_of rows) (map seat_of c.change-2.new.self.items) c.self.invariant
+    c.reseat.ensures.stands (map seat_of (without_first test rows)) (map seat_of rows) c.self.invariant
     (gone test rows c.in-Some.before before)
     (changed c.args.key.now rows c.change-2.new.self.items (λ v w. FnOnceReturnsAtMut g.F.FnOnce c.args.f v tt w) c.requires.keeps c.change-2.ensures.made
     c.in-Some.before before c.in-Some-seat_at.after (sym c.in-Some-seat_at.is ∙ c.seat_at-2.ensures))
@@ -33,7 +33,7 @@ returns-clause-changed g c does says =
     c.change-2.ensures.changed does (λ v w there. says v w (ap (λ r. find (is_row c.args.key.now) r.items) (sym c.self.view_is) ∙ there))
     ∙ ap (λ r. change_first (is_row c.args.key.now) does r.items) c.self.view_is
 
-pub returns-then-is_none-clause-changed : goal.returns-then-is_none-clause-changed
-returns-then-is_none-clause-changed g c does says =
+pub returns-then-not-is_there-clause-changed : goal.returns-then-not-is_there-clause-changed
+returns-then-not-is_there-clause-changed g c does says =
     c.change.ensures.changed does (λ v w there. says v w (ap (λ r. find (is_row c.args.key.now) r.items) (sym c.self.view_is) ∙ there))
     ∙ ap (λ r. change_first (is_row c.args.key.now) does r.items) c.self.view_is

@@ -16,6 +16,6 @@ pub invariant_of-self : goal.invariant_of-self
 invariant_of-self c =
     let test = is_row c.args.key.now in
     let rows = c.self.inside.table.items in
-    c.leave.ensures (map seat_of c.remove_key.new.self.items) (map seat_of rows) c.self.invariant
+    c.leave.ensures.stands (map seat_of c.remove_key.new.self.items) (map seat_of rows) c.self.invariant
     (subst (λ l. IsMore c.in-Some.seat (map seat_of l) (map seat_of rows)) (sym c.remove_key.ensures.items)
     (gone test rows c.in-Some.seat (sym c.in-Some.is ∙ c.seat_at.ensures)))
