@@ -1,0 +1,165 @@
+"""What trials and measures in Python share: this repository's programs, a site of one host with its
+daemon, a client that stays, counting, and bounds."""
+import os
+import socket
+import struct
+import subprocess
+import sys
+import time
+
+TOP = os.path.dirname(os.path.dirname(os.path.abspath(__file__)))
+# More turns than any trial takes.
+TURNS = "1000000000000"
+
+
+def built(name="nqs_replay"):
+    """The path of a program, which is built first where that is needed."""
+    program = subprocess.run([os.path.join(TOP, "build"), name], stdout=subprocess.PIPE, text=True)
+    if program.returncode:
+        sys.exit(f"{name} could not be built")
+    return program.stdout.strip()
+
+
+def compiled(source, folder):
+    """The path of a program in plain Rust, compiled into a folder by `rustc -O`."""
+    program = os.path.join(folder, os.path.basename(source).removesuffix(".rs"))
+    subprocess.run(["rustc", "--edition", "2021", "-O", "-o", program, source], check=True)
+    return program
+
+
+def of_bench(name):
+    """The path of a file of bench/."""
+    return os.path.join(TOP, "bench", name)
+
+
+def refusing(compiler, folder):
+    """The path of `bench/refuse.c`, compiled into a folder as a library for LD_PRELOAD."""
+    library = os.path.join(folder, "refuse.so")
+    subprocess.run([compiler, "-O1", "-shared", "-fPIC", "-o", library, of_bench("refuse.c")], check=True)
+    return library
+
+
+def examples():
+    """The names of the examples that are schedules, with their texts."""
+    script = os.path.join(TOP, "examples", "schedules")
+    for name in subprocess.run([script], stdout=subprocess.PIPE, text=True, check=True).stdout.split():
+        yield name, subprocess.run([script, name], stdout=subprocess.PIPE, check=True).stdout
+
+
+def free_port():
+    """A port that is free now."""
+    with socket.socket(socket.AF_INET, socket.SOCK_DGRAM) as bound:
+        bound.bind(("127.0.0.1", 0))
+        return bound.getsockname()[1]
+
+
+def site_of_one(folder):
+    """Makes a folder the site of one host, alpha, at a free port, which it answers."""
+    port = free_port()
+    with open(os.path.join(folder, "site"), "w", encoding="ascii") as site:
+        site.write(f"alpha 127.0.0.1 {port}\n")
+    return port
+
+
+class Client:
+    """A client that stays: it asks a daemon by datagrams."""
+
+    def __init__(self, port, wait=5.0):
+        self.socket = socket.socket(socket.AF_INET, socket.SOCK_DGRAM)
+        self.socket.bind(("127.0.0.1", 0))
+        self.socket.settimeout(wait)
+        self.port = self.socket.getsockname()[1]
+        self.daemon = ("127.0.0.1", port)
+        self.token = 0
+
+    def ask(self, tool, words=(), script=b"", user=b"root"):
+        self.token += 1
+        text = struct.pack(">BBBBHQ", 1, 10, 0, 0, self.port, self.token)
+        text += bytes([len(user)]) + user + bytes([tool]) + struct.pack(">H", len(words))
+        for word in words:
+            text += struct.pack(">I", len(word)) + word
+        text += struct.pack(">I", len(script)) + script
+        self.socket.sendto(text, self.daemon)
+        while True:
+            try:
+                answer = self.socket.recv(65536)
+            except socket.timeout:
+                return None
+            token, ok, length = struct.unpack(">QBI", answer[4:17])
+            if answer[1] == 11 and token == self.token:
+                return answer[17:17 + length].decode()
+
+    def submit(self, script, words=()):
+        return self.ask(1, words, script, b"ann")
+
+    def qmgr(self, line):
+        return self.ask(4, (line,))
+
+
+class Daemon:
+    """The daemon of a new site of one host in a folder."""
+
+    def __init__(self, nqs, folder):
+        self.nqs, self.folder = nqs, folder
+        self.port = site_of_one(folder)
+        subprocess.run([nqs, "format", folder, "alpha"], check=True)
+        self.start()
+
+    def begin(self):
+        """Starts the program. What it says on standard error goes to a file, as under its
+        keeper."""
+        with open(os.path.join(self.folder, "said"), "ab") as said:
+            self.child = subprocess.Popen([self.nqs, "daemon", self.folder, "alpha", TURNS], stderr=said)
+
+    def start(self):
+        """Starts it, and answers how long it took until its first answer."""
+        began = time.perf_counter()
+        self.begin()
+        client = Client(self.port, 0.02)
+        while client.ask(2, (b"-u", b"nobody")) is None:
+            pass
+        return time.perf_counter() - began
+
+    def kill(self):
+        self.child.kill()
+        self.child.wait()
+
+    def memory(self, which="VmHWM"):
+        with open(f"/proc/{self.child.pid}/status") as status:
+            for line in status:
+                if line.startswith(which):
+                    return int(line.split()[1]) / 1024
+        return 0.0
+
+
+class Counted:
+    """How many cases passed and failed. Those that failed are told as they come, or all."""
+
+    def __init__(self, tells_all=False):
+        self.passed = self.failed = 0
+        self.tells_all = tells_all
+
+    def case(self, is_well, what):
+        """Counts one more."""
+        self.passed += bool(is_well)
+        self.failed += not is_well
+        if self.tells_all or not is_well:
+            print(f"{'passed' if is_well else 'failed'}: {what}", flush=True)
+
+    def sum_up(self):
+        """Says how many there were of each; the status that follows."""
+        print(f"{self.passed} passed, {self.failed} failed")
+        return 1 if self.failed else 0
+
+
+class Bounds:
+    """Figures that are held against the most that each may be."""
+
+    def __init__(self):
+        self.missed = []
+
+    def held(self, name, value, most, unit=""):
+        """Says one, and notes whether it is too much."""
+        print(f"{name}: {value:.4g}{unit} (at most {most}{unit})")
+        if value > most:
+            self.missed.append(name)

@@ -1,0 +1,26 @@
+# What trials in sh share: how they answer `--help`, counting, and a port. A script of a folder
+# beside this one takes it in, before it goes to another folder.
+. "$(dirname "$0")/../tools/usage.sh"
+passed=0
+failed=0
+
+# Counts one more that passed, where the first argument is 0, or that failed.
+counted() {
+    if [ "$1" -eq 0 ]; then
+        passed=$((passed + 1))
+    else
+        failed=$((failed + 1))
+        echo "failed: $2"
+    fi
+}
+
+# Says how many there were of each. Whether none failed.
+sums_up() {
+    echo "$passed passed, $failed failed"
+    [ "$failed" -eq 0 ]
+}
+
+# A port that is free now.
+free_port() {
+    python3 -c 'import socket; s = socket.socket(socket.AF_INET, socket.SOCK_DGRAM); s.bind(("127.0.0.1", 0)); print(s.getsockname()[1])'
+}
