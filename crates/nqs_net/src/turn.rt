@@ -22,7 +22,8 @@ use crate::slot::{Slot, UpHost};
 use crate::stop::stop;
 use nqs_base::{Memory, Tear};
 use nqs_disk::{Lack, MemDisk};
-use nqs_node::{Node, NodeFault};
+use nqs_node::Node;
+use nqs_store::StoreFault;
 use nqs_types::{Event, HostId, Message, Output, Seen};
 use std::alloc::Global;
 
@@ -59,10 +60,10 @@ fn take_event(
 {
     match node.take(alloc, event, out) {
         Ok(halts) => Ok((true, halts)),
-        Err(NodeFault::Disk(_)) => Ok((false, false)),
-        Err(NodeFault::Memory(memory)) => Err(memory),
+        Err(StoreFault::Disk(_)) => Ok((false, false)),
+        Err(StoreFault::Memory(memory)) => Err(memory),
         // It isn't stopped.
-        Err(NodeFault::Stopped) => unreachable!(),
+        Err(StoreFault::Stopped) => unreachable!(),
     }
 }
 
@@ -87,10 +88,10 @@ fn start_event(
 {
     match node.start_next(alloc, now, out) {
         Ok(more) => Ok((true, more)),
-        Err(NodeFault::Disk(_)) => Ok((false, false)),
-        Err(NodeFault::Memory(memory)) => Err(memory),
+        Err(StoreFault::Disk(_)) => Ok((false, false)),
+        Err(StoreFault::Memory(memory)) => Err(memory),
         // It isn't stopped.
-        Err(NodeFault::Stopped) => unreachable!(),
+        Err(StoreFault::Stopped) => unreachable!(),
     }
 }
 

@@ -9,7 +9,7 @@ use Rattle.nqs_outside.specs.declared.disk.Disk as disk
 use Rattle.nqs_types.specs.declared.world.Which.{Which}
 use Rattle.nqs_base.specs.declared.memory.Memory.{Memory}
 pub use Rattle.nqs_base.proofs.Plain.{refuted as not_both}
-use Rattle.nqs_node.specs.declared.fault.NodeFault.TheVariants as node
+use Rattle.nqs_store.specs.declared.fault.StoreFault.TheVariants as fault
 use Rattle.nqs_store.specs.Stores.{OnlyReads, FailedToRead}
 use Rattle.nqs_store.specs.declared.store.Store.{Store}
 
@@ -55,11 +55,11 @@ module _ {D : Type 0} {g : disk.Ghosts D} where
 pub no_error : {T E : Type 0} (x : T) (e : E) → IsErrOf {T = T} {E = E} (Ok x) e → ⊥
 no_error x e is = let no : ⊥ = cc in no
 
-pub node_memory : {T : Type 0} (memory : Memory) (which : Which) → IsErrOf {T = T} (Err (node.Memory memory)) (node.Disk which) → ⊥
+pub node_memory : {T : Type 0} (memory : Memory) (which : Which) → IsErrOf {T = T} (Err (fault.Memory memory)) (fault.Disk which) → ⊥
 node_memory memory which is = let no : ⊥ = cc in no
 
-pub node_stopped : {T : Type 0} (which : Which) → IsErrOf {T = T} (Err node.Stopped) (node.Disk which) → ⊥
+pub node_stopped : {T : Type 0} (which : Which) → IsErrOf {T = T} (Err fault.Stopped) (fault.Disk which) → ⊥
 node_stopped which is = let no : ⊥ = cc in no
 
-pub node_disk : {T : Type 0} (w which : Which) → IsErrOf {T = T} (Err (node.Disk w)) (node.Disk which) → w ≡ which
+pub node_disk : {T : Type 0} (w which : Which) → IsErrOf {T = T} (Err (fault.Disk w)) (fault.Disk which) → w ≡ which
 node_disk w which is = cc

@@ -13,28 +13,28 @@ use Rattle.nqs_rules.specs.Stepped.{Stepped}
 use Rattle.nqs_store.specs.Sound.{IsSoundHost}
 use Rattle.nqs_node.specs.Leaves.{MayStop, Leaves, Carries, TakesStep}
 use Rattle.nqs_node.specs.Nodes.{history_of, active_of, content_of, is_stopped, Stays}
-use Rattle.nqs_node.specs.declared.fault.NodeFault.{NodeFault}
-use Rattle.nqs_node.specs.declared.fault.NodeFault.TheVariants as node
+use Rattle.nqs_store.specs.declared.fault.StoreFault.{StoreFault}
+use Rattle.nqs_store.specs.declared.fault.StoreFault.TheVariants as fault
 use Rattle.nqs_node.specs.declared.node.Node.{Node}
 use Rattle.nqs_node.proofs.Performing.{still_broken_off}
 use Rattle.nqs_node.proofs.Places.{no_error, not_both, node_memory, node_stopped}
 use Rattle.nqs_node.proofs.Telling.{one_still}
 
 -- want of memory isn't a refusal
-pub memory_no_refusal : {T : Type 0} (memory : Memory) → IsErrOf {T = T} (Err (node.Memory memory)) node.Stopped → ⊥
+pub memory_no_refusal : {T : Type 0} (memory : Memory) → IsErrOf {T = T} (Err (fault.Memory memory)) fault.Stopped → ⊥
 memory_no_refusal memory is = let no : ⊥ = cc in no
 
 -- nor is it a failed call of a disk
-pub disk_no_memory : {T : Type 0} (which : Which) → IsErrOf {T = T} (Err (node.Disk which)) (node.Memory want) → ⊥
+pub disk_no_memory : {T : Type 0} (which : Which) → IsErrOf {T = T} (Err (fault.Disk which)) (fault.Memory want) → ⊥
 disk_no_memory which is = let no : ⊥ = cc in no
 
 -- no failed call of a disk is one
-pub disk_no_refusal : {T : Type 0} (which : Which) → IsErrOf {T = T} (Err (node.Disk which)) node.Stopped → ⊥
+pub disk_no_refusal : {T : Type 0} (which : Which) → IsErrOf {T = T} (Err (fault.Disk which)) fault.Stopped → ⊥
 disk_no_refusal which is = let no : ⊥ = cc in no
 
 -- a node that isn't stopped refuses nothing
-pub no_refusal : {D T : Type 0} {g : disk.Ghosts D} {r : Result T NodeFault} (old : Node D g) → is_stopped old ≡ false → (IsErrOf r node.Stopped → ⊥)
-    → IsErrOf r node.Stopped ↔ IsTrue (is_stopped old)
+pub no_refusal : {D T : Type 0} {g : disk.Ghosts D} {r : Result T StoreFault} (old : Node D g) → is_stopped old ≡ false → (IsErrOf r fault.Stopped → ⊥)
+    → IsErrOf r fault.Stopped ↔ IsTrue (is_stopped old)
 no_refusal old running none = (λ is. absurd (none is), λ yes. absurd (not_both _ yes running))
 
 -- nothing happened
@@ -42,7 +42,7 @@ pub stays_still : {D : Type 0} {g : disk.Ghosts D} (old : Node D g) → Stays ol
 stays_still old = record { state = refl; running = refl; active = refl; same = λ which. refl; tells = λ s told. told }
 
 module _ {D : Type 0} {g : disk.Ghosts D} {T : Type 0} (old : Node D g) where
-  module _ (e : NodeFault) (no : (which : Which) → IsErrOf {T = T} (Err e) (node.Disk which) → ⊥) where
+  module _ (e : StoreFault) (no : (which : Which) → IsErrOf {T = T} (Err e) (fault.Disk which) → ⊥) where
     pub stops_still : MayStop {T = T} old old (Err e)
     stops_still = record {
       running = tt;
@@ -65,7 +65,7 @@ module _ {D : Type 0} {g : disk.Ghosts D} {T : Type 0} (old : Node D g) where
     pub takes_still : (said says : List Output) (step : Plain → Stepped (List ℕ)) → TakesStep {T = T} old old said says step (Err e)
     takes_still said says step = record { bare = tt; alike = tt; short = λ was went. tt; carries = λ s told. carries_still said says (step s) }
 
-    leaves_still : IsSoundHost (content_of old) → (out : Vec Output) → IsErrOf {T = T} (Err e) node.Stopped ↔ IsTrue (is_stopped old)
+    leaves_still : IsSoundHost (content_of old) → (out : Vec Output) → IsErrOf {T = T} (Err e) fault.Stopped ↔ IsTrue (is_stopped old)
         → Leaves {T = T} old old out out (Err e)
     leaves_still sound out stopped = record {
       sound = sound;
@@ -79,14 +79,14 @@ module _ {D : Type 0} {g : disk.Ghosts D} {T : Type 0} (old : Node D g) where
     }
 
   -- it was stopped
-  pub refuses_still : IsSoundHost (content_of old) → (out : Vec Output) → IsTrue (is_stopped old) → Leaves {T = T} old old out out (Err node.Stopped)
-  refuses_still sound out stopped = leaves_still node.Stopped node_stopped sound out (λ is. stopped, λ is. refl)
+  pub refuses_still : IsSoundHost (content_of old) → (out : Vec Output) → IsTrue (is_stopped old) → Leaves {T = T} old old out out (Err fault.Stopped)
+  refuses_still sound out stopped = leaves_still fault.Stopped node_stopped sound out (λ is. stopped, λ is. refl)
 
   -- memory was wanting
   pub wants_still : IsSoundHost (content_of old) → (out : Vec Output) → is_stopped old ≡ false → (memory : Memory)
-      → Leaves {T = T} old old out out (Err (node.Memory memory))
+      → Leaves {T = T} old old out out (Err (fault.Memory memory))
   wants_still sound out running memory =
-      leaves_still (node.Memory memory) (node_memory memory) sound out (no_refusal old running (memory_no_refusal memory))
+      leaves_still (fault.Memory memory) (node_memory memory) sound out (no_refusal old running (memory_no_refusal memory))
 
 module _ {D T U : Type 0} {g : disk.Ghosts D} {x : T} {y : U} (old now : Node D g) where
   -- what was carried out, with another answer

@@ -18,37 +18,37 @@ use Rattle.nqs_node.specs.Carried.{after_kept, IsMade, IsCutBy, IsBrokenOff, IsO
 use Rattle.nqs_node.specs.Nodes as nodes
 use Rattle.nqs_node.specs.Planned.{Does}
 use Rattle.nqs_node.specs.Reading.{AreShort}
-use Rattle.nqs_node.specs.declared.fault.NodeFault.{NodeFault}
-use Rattle.nqs_node.specs.declared.fault.NodeFault.TheVariants as node
+use Rattle.nqs_store.specs.declared.fault.StoreFault.{StoreFault}
+use Rattle.nqs_store.specs.declared.fault.StoreFault.TheVariants as fault
 use Rattle.nqs_node.specs.declared.node.Node.{Node}
 
 module _ {D : Type 0} {g : disk.Ghosts D} {T : Type 0} (old now : Node D g) where
   -- what a call that may stop the node leaves of its disks
-  abbrev pub MayStop : Result T NodeFault → Type 0
-  MayStop = StopsBy g (nodes.is_stopped now) (λ which. nodes.disk_of which old) (λ which. nodes.disk_of which now) node.Disk
+  abbrev pub MayStop : Result T StoreFault → Type 0
+  MayStop = StopsBy g (nodes.is_stopped now) (λ which. nodes.disk_of which old) (λ which. nodes.disk_of which now) fault.Disk
 
   -- what a call leaves, whatever it was to do: a fault says nothing and makes no change
-  pub record Leaves (said says : Vec Output) (result : Result T NodeFault) : Type 0 where
+  pub record Leaves (said says : Vec Output) (result : Result T StoreFault) : Type 0 where
     -- the host is sound
     pub sound : IsSoundHost (nodes.content_of now)
     -- its site stays
     pub site : (nodes.content_of now).site ≡ (nodes.content_of old).site
     -- a stopped node refuses, and no other
-    pub stopped : IsErrOf result node.Stopped ↔ IsTrue (nodes.is_stopped old)
+    pub stopped : IsErrOf result fault.Stopped ↔ IsTrue (nodes.is_stopped old)
     -- which leaves all as it was
-    pub refused : IsErrOf result node.Stopped → (now ≡ old) × (says ≡ said)
+    pub refused : IsErrOf result fault.Stopped → (now ≡ old) × (says ≡ said)
     -- a failed call of a disk stops it
     pub stops : MayStop result
     -- a fault adds nothing to what goes out
     pub unsaid : OnErr result (says.items ≡ said.items)
     -- for want of memory nothing happened
-    pub memory : IsTrue g.tells → IsErrOf result (node.Memory want) → nodes.Stays old now
+    pub memory : IsTrue g.tells → IsErrOf result (fault.Memory want) → nodes.Stays old now
     -- a fault makes no change
     pub unmade : OnErr result (nodes.content_of now ≡ nodes.content_of old)
 
 module _ {D : Type 0} {g : disk.Ghosts D} {T : Type 0} (old now : Node D g) (said says : List Output) where
   -- A plan that does this was carried out, behind what was said before; or a call failed.
-  pub record Carries (done : Stepped (List ℕ)) (result : Result T NodeFault) : Type 0 where
+  pub record Carries (done : Stepped (List ℕ)) (result : Result T StoreFault) : Type 0 where
     -- the node tells the state after it
     pub told : IsTrue g.tells → (s : Plain) → nodes.Tells old s → OnOk result (nodes.Tells now (after_step done s))
     -- what goes out is what it says
@@ -61,7 +61,7 @@ module _ {D : Type 0} {g : disk.Ghosts D} {T : Type 0} (old now : Node D g) (sai
     -- a part of its calls was made, of which only the last may have failed
     pub broken_off : IsTrue g.tells → OnErr result (IsBrokenOff (nodes.active_of old) (nodes.history_of old) (nodes.history_of now) done.change)
     -- which of them failed is the disk's to say, unless it is starved
-    pub cut : IsTrue g.tells → (s : Plain) → nodes.Tells old s → (which : Which) → IsErrOf result (node.Disk which)
+    pub cut : IsTrue g.tells → (s : Plain) → nodes.Tells old s → (which : Which) → IsErrOf result (fault.Disk which)
         → IsTrue (nodes.is_starved now which) ⊎ (IsBlown (nodes.fails_of old which) (nodes.history_of old which)
         ⊎ IsCutBy (nodes.active_of old) (nodes.fails_of old) (nodes.history_of old) (nodes.history_of now) done.change s which)
     -- at each moment, whatever images the disks may leave, they tell the state before it or the one
@@ -70,7 +70,7 @@ module _ {D : Type 0} {g : disk.Ghosts D} {T : Type 0} (old now : Node D g) (sai
         → IsOneOrOther (nodes.active_of old) (nodes.history_of old) (nodes.history_of now) done.change s
 
   -- A plan was carried out, behind what was said before; or a call failed.
-  pub record CarriesOut (plan : Plan) (result : Result T NodeFault) : Type 0 where
+  pub record CarriesOut (plan : Plan) (result : Result T StoreFault) : Type 0 where
     -- over whatever disks it is the host after the change, but for the bytes that are kept
     pub bare : OnOk result (nodes.bare now ≡ after_change (option_map blank plan.change) (nodes.bare old))
     -- and what goes out are the outputs, but for these bytes
@@ -82,7 +82,7 @@ module _ {D : Type 0} {g : disk.Ghosts D} {T : Type 0} (old now : Node D g) (sai
     pub carries : (done : Stepped (List ℕ)) → Does (nodes.bytes_of old) plan done → Carries done result
 
   -- A step was taken, behind what was said before; or a call failed.
-  pub record TakesStep (step : Plain → Stepped (List ℕ)) (result : Result T NodeFault) : Type 0 where
+  pub record TakesStep (step : Plain → Stepped (List ℕ)) (result : Result T StoreFault) : Type 0 where
     -- over whatever disks, at Ok its state is that after the step, but for the bytes that are kept
     pub bare : OnOk result (nodes.bare now ≡ emptied (after_step (step (nodes.bare old)) (nodes.bare old)))
     -- and what goes out is the step's, but for these bytes

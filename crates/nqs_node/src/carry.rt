@@ -5,7 +5,6 @@ ghost use Rattle.nqs_store.specs.Sound.{IsSoundHost};
 ghost use Rattle.nqs_node.specs.Leaves.{Leaves, CarriesOut};
 ghost use Rattle.nqs_node.specs.Planned.{MayBeDone};
 
-use crate::fault::NodeFault;
 use crate::node::Node;
 use crate::perform::perform;
 use nqs_outside::Disk;
@@ -23,7 +22,7 @@ impl<D: Disk> Node<D> {
         alloc: Global,
         plan: Plan,
         out: &mut Vec<Output>,
-    ) -> Result<bool, NodeFault>
+    ) -> Result<bool, StoreFault>
         requires sound { IsSoundHost (content_of self.old) }
         requires running { is_stopped self.old ≡ false }
         requires may { MayBeDone (content_of self.old) plan }
@@ -32,7 +31,7 @@ impl<D: Disk> Node<D> {
         ensures carries { CarriesOut self.old self.new out.old.items out.new.items plan result }
     {
         match out.reserve(plan.outputs.len()) {
-            Err(refused) => Err(NodeFault::Memory(refused.into())),
+            Err(refused) => Err(StoreFault::Memory(refused.into())),
             Ok(()) => {
                 let halts = plan.halts;
                 let (change, puts, outputs, reads) = plan.into_parts();
@@ -52,9 +51,9 @@ impl<D: Disk> Node<D> {
                 ) {
                     Err(StoreFault::Memory(memory)) => {
                         self.stopped = false;
-                        Err(NodeFault::Memory(memory))
+                        Err(StoreFault::Memory(memory))
                     }
-                    Err(StoreFault::Disk(which)) => Err(NodeFault::Disk(which)),
+                    Err(StoreFault::Disk(which)) => Err(StoreFault::Disk(which)),
                     // The store isn't stopped, as the node wasn't.
                     Err(StoreFault::Stopped) => unreachable!(),
                     Ok(()) => {

@@ -8,11 +8,9 @@
 
 mod boot;
 mod carry;
-mod fault;
 mod keep;
 mod node;
 mod perform;
 mod reads;
 
-pub use fault::NodeFault;
 pub use node::Node;

@@ -18,7 +18,6 @@ ghost use Rattle.nqs_back.specs.Back.{comebacks, comes_back};
 ghost use Rattle.nqs_node.specs.Carried.{started};
 ghost use Rattle.nqs_node.specs.Idle.{is_idle};
 
-use crate::fault::NodeFault;
 use nqs_base::Memory;
 use nqs_host_laws::laws::{
     few_offers_are_taken_back, outputs_read_live_extents, stored_bytes_are_short,
@@ -30,7 +29,7 @@ use nqs_rules::start_laws::start_looks_at_no_bytes;
 use nqs_state::HostState;
 use nqs_step::start::start;
 use nqs_step::step::step;
-use nqs_store::{Disks, LoadFault, Store};
+use nqs_store::{Disks, LoadFault, Store, StoreFault};
 use nqs_types::{Event, Output, Plan, Which};
 use std::alloc::Global;
 
@@ -61,7 +60,7 @@ impl<D: Disk> Node<D> {
         alloc: Global,
         event: &mut Event,
         out: &mut Vec<Output>,
-    ) -> Result<bool, NodeFault>
+    ) -> Result<bool, StoreFault>
         requires sound { IsSoundHost (content_of self.old) }
         requires sane { IsTrue (is_sane_event (length (content_of self.old).site) event.old) }
         ensures leaves { Leaves self.old self.new out.old out.new result }
@@ -76,7 +75,7 @@ impl<D: Disk> Node<D> {
         ensures none_back { IsTrue (comes_back event.old) → OnOk result (comebacks out.new.items ≡ comebacks out.old.items) }
     {
         if self.stopped {
-            return Err(NodeFault::Stopped);
+            return Err(StoreFault::Stopped);
         }
         step_looks_at_no_bytes();
         step_fits();
@@ -84,7 +83,7 @@ impl<D: Disk> Node<D> {
         stored_bytes_are_short();
         outputs_read_live_extents();
         match step(alloc, &self.state, event) {
-            Err(memory) => Err(NodeFault::Memory(memory)),
+            Err(memory) => Err(StoreFault::Memory(memory)),
             Ok(plan) => self.carry_out(alloc, plan, out),
         }
     }
@@ -109,7 +108,7 @@ impl<D: Disk> Node<D> {
         alloc: Global,
         now: u64,
         out: &mut Vec<Output>,
-    ) -> Result<bool, NodeFault>
+    ) -> Result<bool, StoreFault>
         requires sound { IsSoundHost (content_of self.old) }
         ensures leaves { Leaves self.old self.new out.old out.new result }
         ensures takes { TakesStep self.old self.new out.old.items out.new.items (started now) result }
@@ -125,7 +124,7 @@ impl<D: Disk> Node<D> {
         ensures one_back { OnOk result (comebacks out.new.items ≤ comebacks out.old.items + 1) }
     {
         if self.stopped {
-            return Err(NodeFault::Stopped);
+            return Err(StoreFault::Stopped);
         }
         start_looks_at_no_bytes();
         start_fits();
@@ -133,7 +132,7 @@ impl<D: Disk> Node<D> {
         stored_bytes_are_short();
         outputs_read_live_extents();
         match self.look(alloc, now) {
-            Err(memory) => Err(NodeFault::Memory(memory)),
+            Err(memory) => Err(StoreFault::Memory(memory)),
             Ok(None) => {
                 self.idle = Some(now);
                 Ok(false)

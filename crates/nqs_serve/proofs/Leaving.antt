@@ -13,8 +13,8 @@ use Rattle.nqs_store.specs.Sound.{IsSoundHost}
 use Rattle.nqs_node.specs.Leaves as nodes
 use Rattle.nqs_node.specs.Nodes.{bare, content_of, is_stopped}
 use Rattle.nqs_node.specs.Reading.{AreShort}
-use Rattle.nqs_node.specs.declared.fault.NodeFault.{NodeFault}
-use Rattle.nqs_node.specs.declared.fault.NodeFault.TheVariants as node
+use Rattle.nqs_store.specs.declared.fault.StoreFault.{StoreFault}
+use Rattle.nqs_store.specs.declared.fault.StoreFault.TheVariants as fault
 use Rattle.nqs_node.specs.declared.node.Node.{Node}
 use Rattle.nqs_base.proofs.Plain.{anyway}
 pub use Rattle.nqs_node.proofs.Places.{no_error}
@@ -76,11 +76,11 @@ pub both_left : {D T U V E : Type 0} {g : disk.Ghosts D} (a b c : Node D g) (fai
     → Leaves b c failed (Ok y) → Leaves a c failed (Ok z)
 both_left a b c failed x y z one two = left_as a c failed failed y (Ok z) (no_error z failed) (then_left a b c failed x (Ok y) one two)
 
-cut_disk : (e : NodeFault) (k : Cut) → Cuts e k → k ≡ cut.Disk → (which : Which) × (e ≡ node.Disk which)
+cut_disk : (e : StoreFault) (k : Cut) → Cuts e k → k ≡ cut.Disk → (which : Which) × (e ≡ fault.Disk which)
 cut_disk e cut.Disk cuts is = cuts
 cut_disk e (cut.Memory memory) cuts is = absurd (let no : ⊥ = cc in no)
 
-cut_memory : (e : NodeFault) (k : Cut) → Cuts e k → k ≡ cut.Memory want → e ≡ node.Memory want
+cut_memory : (e : StoreFault) (k : Cut) → Cuts e k → k ≡ cut.Memory want → e ≡ fault.Memory want
 cut_memory e cut.Disk cuts is = cc
 cut_memory e (cut.Memory memory) cuts is = cc
 
@@ -96,7 +96,7 @@ module _ {D T : Type 0} {g : disk.Ghosts D} (old now : Node D g) where
     broken = λ is. absurd (no_error x cut.Disk is);
   }
 
-  pub cut_left : (was says : Vec Output) (e : NodeFault) (k : Cut) → Cuts e k → nodes.Leaves {T = T} old now was says (Err e)
+  pub cut_left : (was says : Vec Output) (e : StoreFault) (k : Cut) → Cuts e k → nodes.Leaves {T = T} old now was says (Err e)
       → Leaves {T = T} old now cut.Disk (Err k)
   cut_left was says e k cuts left = record {
     sound = left.sound;
@@ -124,7 +124,7 @@ module _ {D T : Type 0} {g : disk.Ghosts D} (old now : Node D g) where
     moments = λ s knows. (takes.carries s knows.1).any_moment knows.0 s knows.1;
   }
 
-  pub cut_taken : (was says : Vec Output) (step : Plain → Stepped (List ℕ)) (e : NodeFault) (k : Cut) → Cuts e k
+  pub cut_taken : (was says : Vec Output) (step : Plain → Stepped (List ℕ)) (e : StoreFault) (k : Cut) → Cuts e k
       → nodes.Leaves {T = T} old now was says (Err e)
       → nodes.TakesStep {T = T} old now was.items says.items step (Err e) → TakesStep {T = T} old now was.items says.items step (Err k)
   cut_taken was says step e k cuts left takes = record {

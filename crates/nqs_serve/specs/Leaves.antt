@@ -13,8 +13,8 @@ use Rattle.nqs_store.specs.Sound.{IsSoundHost}
 use Rattle.nqs_node.specs.Carried.{after_kept, IsOneOrOther}
 use Rattle.nqs_node.specs.Nodes as nodes
 use Rattle.nqs_node.specs.Reading.{AreShort}
-use Rattle.nqs_node.specs.declared.fault.NodeFault.{NodeFault}
-use Rattle.nqs_node.specs.declared.fault.NodeFault.TheVariants as node
+use Rattle.nqs_store.specs.declared.fault.StoreFault.{StoreFault}
+use Rattle.nqs_store.specs.declared.fault.StoreFault.TheVariants as fault
 use Rattle.nqs_node.specs.declared.node.Node.{Node}
 use Rattle.nqs_serve.specs.Nodes.{Knows}
 use Rattle.nqs_serve.specs.Sends.{AreRight}
@@ -23,9 +23,9 @@ use Rattle.nqs_serve.specs.declared.cut.Cut.{Cut}
 use Rattle.nqs_serve.specs.declared.cut.Cut.TheVariants as cut
 
 -- a fault of the node cuts an event off by this
-abbrev pub Cuts : NodeFault → Cut → Type 0
-Cuts fault cut.Disk = (which : Which) × (fault ≡ node.Disk which)
-Cuts fault (cut.Memory memory) = fault ≡ node.Memory memory
+abbrev pub Cuts : StoreFault → Cut → Type 0
+Cuts fault cut.Disk = (which : Which) × (fault ≡ fault.Disk which)
+Cuts fault (cut.Memory memory) = fault ≡ fault.Memory memory
 
 module _ {D T E : Type 0} {g : disk.Ghosts D} (old now : Node D g) where
   -- what a call leaves, whatever it was to do, where this error is that a call of a disk failed

@@ -38,21 +38,22 @@ use crate::cut::Cut;
 use crate::event::set_moment;
 use crate::letter::{Letter, add_letters};
 use nqs_base::{Memory, Name};
-use nqs_node::{Node, NodeFault};
+use nqs_node::Node;
 use nqs_outside::{Clock, Disk, Launcher, Outlet, Printer, Wire};
+use nqs_store::StoreFault;
 use nqs_types::{Event, HostId, Output};
 use std::alloc::Global;
 use std::collections::VecDeque;
 
 // By what this fault of a node that isn't stopped cuts an event off.
-fn cut_by(fault: NodeFault) -> Cut
-    requires { fault ≡ NodeFault.Stopped → ⊥ }
+fn cut_by(fault: StoreFault) -> Cut
+    requires { fault ≡ StoreFault.Stopped → ⊥ }
     ensures { Cuts fault result }
 {
     match fault {
-        NodeFault::Memory(memory) => Cut::Memory(memory),
-        NodeFault::Disk(_) => Cut::Disk,
-        NodeFault::Stopped => unreachable!(),
+        StoreFault::Memory(memory) => Cut::Memory(memory),
+        StoreFault::Disk(_) => Cut::Disk,
+        StoreFault::Stopped => unreachable!(),
     }
 }
 

@@ -15,7 +15,7 @@ use crate::node::{formatted, start_queue, submission, submit};
 use nqs_base::{Bytes, Tear};
 use nqs_disk::{Lack, MemDisk};
 use nqs_journal::{Journal, JournalFault, format};
-use nqs_node::{Node, NodeFault};
+use nqs_node::Node;
 use nqs_outside::{Disk, Fused};
 use nqs_state::HostState;
 use nqs_store::{Disks, LoadFault, Store, StoreFault, read_only};
@@ -115,13 +115,13 @@ fn cut(alloc: Global, node: Node<MemDisk>, event: &mut Event, which: Which, tear
     let mut node = node;
     let mut out = Vec::new(alloc);
     let failed = match node.take(alloc, event, &mut out) {
-        Err(NodeFault::Disk(at)) => at == which,
+        Err(StoreFault::Disk(at)) => at == which,
         _ => false,
     };
     let stopped = node.is_stopped();
     let mut tick = Event::Tick { now: 100 };
     let again = match node.take(alloc, &mut tick, &mut out) {
-        Err(NodeFault::Stopped) => true,
+        Err(StoreFault::Stopped) => true,
         _ => false,
     };
     let silent = out.is_empty();

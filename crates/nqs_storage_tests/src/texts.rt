@@ -1,7 +1,6 @@
 //! The texts of faults, as a person reads them. No contract says them, and two that are swapped
 //! would be proved. Want of memory has none here: no test makes one.
 
-use nqs_node::NodeFault;
 use nqs_store::{LoadFault, StoreFault};
 use nqs_types::Which;
 use std::alloc::Global;
@@ -24,9 +23,7 @@ fn faults_of_a_host_say_what_failed(rt: HostRuntime) -> Result<(), Fail> {
         )?,
         says(alloc, &StoreFault::Disk(Which::Root), "a disk failed")?,
         says(alloc, &StoreFault::Stopped, "the store is stopped")?,
-        says(alloc, &NodeFault::Disk(Which::Root), "a disk failed")?,
-        says(alloc, &NodeFault::Stopped, "the node is stopped")?,
     ];
-    assert_eq!(rt; said, [true; 6]);
+    assert_eq!(rt; said, [true; 4]);
     Ok(())
 }

@@ -13,7 +13,7 @@ use Rattle.nqs_node.specs.Nodes.{history_of, fails_of, active_of, content_of, by
 use Rattle.nqs_node.specs.Reading.{AreShort}
 use Rattle.nqs_back.proofs.Plans.{bare_step, alike_step, fewer_left, one_back}
 use Rattle.nqs_node.proofs.Bare.{picked_bare, started_bare, bare_none, alike_none}
-use Rattle.nqs_node.specs.declared.fault.NodeFault.TheVariants as node
+use Rattle.nqs_store.specs.declared.fault.StoreFault.TheVariants as fault
 use Rattle.nqs_node.proofs.Places.{no_error, node_memory, node_stopped}
 use Rattle.nqs_node.proofs.Still.{no_refusal, takes_still, refuses_still, wants_still, carries_true, leaves_true}
 use Rattle.nqs_node.proofs.Planning.{next_is, at_next, none_next, may_be_done, does}
@@ -38,7 +38,7 @@ pub returns-then-self-clause-leaves : goal.returns-then-self-clause-leaves
 returns-then-self-clause-leaves g c = refuses_still c.args.self.now c.requires.sound c.args.out.now c.if-self.true
 
 pub returns-then-self-clause-takes : goal.returns-then-self-clause-takes
-returns-then-self-clause-takes g c = takes_still c.args.self.now node.Stopped node_stopped _ _ (started c.args.now)
+returns-then-self-clause-takes g c = takes_still c.args.self.now fault.Stopped node_stopped _ _ (started c.args.now)
 
 pub returns-in-Err-clause-leaves : goal.returns-in-Err-clause-leaves
 returns-in-Err-clause-leaves g c = wants_still c.args.self.now c.requires.sound c.args.out.now c.if-self.false c.in-Err.memory

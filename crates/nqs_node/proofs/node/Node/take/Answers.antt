@@ -6,7 +6,7 @@ use Rattle.nqs_types.specs.declared.event.Plan.{Plan}
 use Rattle.nqs_node.specs.Nodes.{content_of, bytes_of, bare}
 use Rattle.nqs_node.specs.Reading.{AreShort}
 use Rattle.nqs_back.proofs.Plans.{bare_step, alike_step, no_more_left, none_back}
-use Rattle.nqs_node.specs.declared.fault.NodeFault.TheVariants as node
+use Rattle.nqs_store.specs.declared.fault.StoreFault.TheVariants as fault
 use Rattle.nqs_node.proofs.Places.{node_memory, node_stopped}
 use Rattle.nqs_node.proofs.Still.{takes_still, refuses_still, wants_still}
 use Rattle.nqs_node.proofs.Planning.{may_be_done, does}
@@ -27,7 +27,7 @@ pub returns-then-self-clause-leaves : goal.returns-then-self-clause-leaves
 returns-then-self-clause-leaves g c = refuses_still c.args.self.now c.requires.sound c.args.out.now c.if-self.true
 
 pub returns-then-self-clause-takes : goal.returns-then-self-clause-takes
-returns-then-self-clause-takes g c = takes_still c.args.self.now node.Stopped node_stopped _ _ (step c.args.event.now)
+returns-then-self-clause-takes g c = takes_still c.args.self.now fault.Stopped node_stopped _ _ (step c.args.event.now)
 
 pub returns-in-Err-clause-leaves : goal.returns-in-Err-clause-leaves
 returns-in-Err-clause-leaves g c = wants_still c.args.self.now c.requires.sound c.args.out.now c.if-self.false c.in-Err.memory
