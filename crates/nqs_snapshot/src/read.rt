@@ -1,19 +1,20 @@
 //! A whole state, read.
 
-ghost use Rattle.std.specs.Prelude.{◌≢◌, IfOk, IfErr};
+ghost use Rattle.std.specs.Prelude.{◌≡◌, ◌≢◌, Ok, Err, if◌then◌else◌, IfOk, IfErr};
 ghost use Rattle.nqs_base.specs.Want.{want};
 ghost use Rattle.nqs_state.specs.State.{content};
 ghost use Rattle.nqs_records.specs.Reading.{Answers};
-ghost use Rattle.nqs_records.specs.declared.fault.RecordFault.TheVariants.{Memory};
+ghost use Rattle.nqs_records.specs.declared.fault.RecordFault.TheVariants.{BadField, Memory};
 ghost use Rattle.nqs_snapshot.specs.Values.{MayStand};
 ghost use Rattle.nqs_snapshot.specs.Reading.{state_of, or_bad, whole_of, snapshot_of};
 ghost use Rattle.nqs_rules.specs.InOrder.{IsInOrder, IsConsistent};
-ghost use Rattle.nqs_snapshot.specs.Sound.{HasShortParts};
+ghost use Rattle.nqs_snapshot.specs.Sound.{HasShortParts, is_consistent};
 ghost use Rattle.nqs_snapshot.specs.Laws.{IsSpelledBy, SpellsNone, told_by};
 
+use crate::consistent::is_consistent;
 use crate::lists::InSnapshot;
 use crate::parts::Parts;
-use crate::sound::may_go_on;
+use crate::sound::is_right;
 use nqs_records::{RecordFault, read_alone};
 use nqs_state::HostState;
 use std::alloc::Global;
@@ -26,7 +27,19 @@ fn read_whole(alloc: Global, bytes: &[u8]) -> Result<Parts, RecordFault>
     read_alone::<InSnapshot, Parts>(alloc, bytes, 0)
 }
 
-// The state of the parts, where a host may go on from it.
+// A state in order, where it is consistent. It asks for no memory, so that one which isn't is told
+// as a bad field and never as a want of memory.
+fn consistent(state: HostState) -> Result<HostState, RecordFault>
+    ensures { told_by result ≡ (if is_consistent (content state) then Ok (content state) else Err (BadField 0)) }
+{
+    if is_consistent(&state) {
+        return Ok(state);
+    }
+    Err(RecordFault::BadField(0))
+}
+
+// The state of the parts, where a host may go on from it. All memory is asked for before it is seen
+// whether the state is consistent.
 #[tactic(auto, unfolding(crate::specs::Sound::is_sound))]
 fn sound_state(alloc: Global, parts: Parts) -> Result<HostState, RecordFault>
     requires { MayStand (state_of parts) }
@@ -35,10 +48,10 @@ fn sound_state(alloc: Global, parts: Parts) -> Result<HostState, RecordFault>
     let Some(state) = parts.build(alloc)? else {
         return Err(RecordFault::BadField(0));
     };
-    if !may_go_on(alloc, &state)? {
+    if !is_right(alloc, &state)? {
         return Err(RecordFault::BadField(0));
     }
-    Ok(state)
+    consistent(state)
 }
 
 #[tactic(auto, unfolding(crate::specs::Reading::snapshot_of))]

@@ -1,14 +1,13 @@
-//! Whether a host may go on from a state.
+//! Whether a state is in order, as a host may go on from it.
 
-ghost use Rattle.std.specs.Prelude.{◌≡◌, ◌&&◌, IsTrue, IfOk};
+ghost use Rattle.std.specs.Prelude.{◌≡◌, IsTrue, IfOk};
 ghost use Rattle.std.specs.List.{AllByRecursion};
 ghost use Rattle.nqs_state.specs.State.{content};
 ghost use Rattle.nqs_base.specs.Path.{is_path};
 ghost use Rattle.nqs_rules.specs.Sane.{is_sane_job};
 ghost use Rattle.nqs_snapshot.specs.Values.{MayStand};
-ghost use Rattle.nqs_snapshot.specs.Sound.{are_bounds_right, are_values_right, is_right, is_consistent};
+ghost use Rattle.nqs_snapshot.specs.Sound.{are_bounds_right, are_values_right, is_right};
 
-use crate::consistent::is_consistent;
 use crate::differ::are_numbers_distinct;
 use crate::few::are_hands_few;
 use crate::order::{
@@ -42,9 +41,9 @@ fn are_values_right(state: &HostState) -> bool
         && all_right(&state.files, state)
 }
 
-// Whether a state whose values have fields is in order, but that its keys are distinct.
+/// Whether a state whose values have fields is in order, but that its keys are distinct.
 #[tactic(auto, unfolding(crate::specs::Sound::is_right))]
-fn is_right(alloc: Global, state: &HostState) -> Result<bool, AllocError>
+pub(crate) fn is_right(alloc: Global, state: &HostState) -> Result<bool, AllocError>
     requires { MayStand (content state.now) }
     ensures { IfOk result (λ right. right ≡ is_right (content state.now)) }
 {
@@ -58,15 +57,4 @@ fn is_right(alloc: Global, state: &HostState) -> Result<bool, AllocError>
         return Ok(false);
     }
     are_numbers_distinct(alloc, state)
-}
-
-/// Whether a host may go on from a state whose values have fields and whose keys are distinct.
-pub(crate) fn may_go_on(alloc: Global, state: &HostState) -> Result<bool, AllocError>
-    requires { MayStand (content state.now) }
-    ensures { IfOk result (λ may. may ≡ (is_right (content state.now) && is_consistent (content state.now))) }
-{
-    if !is_right(alloc, state)? {
-        return Ok(false);
-    }
-    Ok(is_consistent(state))
 }
