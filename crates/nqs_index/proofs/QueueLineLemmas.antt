@@ -1,5 +1,5 @@
 -- The lines of queues: what an entry more or less, or a queue more, leaves of them.
-use Rattle.std.proofs.Common.{◌≡◌, ℕ, ◌<◌, map, slice_set, slice_index_or, Bool, true, false, List, [], ◌∷◌, ◌++◌, find, length, position, slice_get, Option}
+use Rattle.std.proofs.Common.{◌≡◌, ℕ, ◌<◌, slice_set, Bool, true, false, List, [], ◌∷◌, ◌++◌, find, length, position, slice_get, Option}
 use Rattle.std.proofs.Common.{None, Some}
 use Rattle.std.proofs.Common.{option_map, refl, sym, ap, subst, ◌∙◌, if◌then◌else◌, IfSome}
 use Rattle.std.specs.Prelude.{cond}

@@ -1,5 +1,5 @@
 -- Counters: what a change or a gain of one leaves of the counts.
-use Rattle.std.proofs.Common.{◌≡◌, ℕ, ◌+◌, ◌-◌, ◌<◌, ◌^◌, Bool, true, false, List, [], ◌∷◌, ◌++◌, find, Option, None, Some, is_some, option_map, refl, sym, ap, ◌∙◌}
+use Rattle.std.proofs.Common.{◌≡◌, ℕ, ◌+◌, ◌-◌, Bool, true, false, List, [], ◌∷◌, ◌++◌, find, Option, None, Some, is_some, option_map, refl, sym, ap, ◌∙◌}
 use Rattle.std.proofs.Common.{arith, if◌then◌else◌, true≢false}
 use Rattle.std.specs.Prelude.{cond}
 use Rattle.std.specs.List.{list_any}

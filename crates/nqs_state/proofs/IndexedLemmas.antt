@@ -1,5 +1,5 @@
 -- An index that is there, or not.
-use Rattle.std.proofs.Common.{◌≡◌, false, sym, true≢false}
+use Rattle.std.proofs.Common.{◌≡◌, false, true≢false}
 use Rattle.nqs_index.specs.declared.index.Index.{Index}
 use Rattle.nqs_state.specs.declared.indexed.Indexed.{Indexed}
 use Rattle.nqs_state.specs.declared.indexed.Indexed.TheVariants.{There, Lacking, NotYet}

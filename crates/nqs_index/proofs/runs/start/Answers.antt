@@ -1,4 +1,4 @@
-use Rattle.std.proofs.Common.{◌∙◌, sym, subst, arith, rules}
+use Rattle.std.proofs.Common.{◌∙◌, sym, subst, rules}
 use Rattle.nqs_index.specs.Indexed.{IsMore}
 use Rattle.nqs_index.specs.Runs.{ids_of, with_more}
 use Rattle.nqs_index.proofs.RunLemmas.{run_raised, run_within}

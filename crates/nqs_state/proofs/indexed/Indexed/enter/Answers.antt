@@ -1,4 +1,4 @@
-use Rattle.std.proofs.Common.{◌∙◌, map, arith}
+use Rattle.std.proofs.Common.{map, arith}
 use Rattle.std.proofs.lemmas.List.{length-map}
 use Rattle.nqs_index.specs.Seats.{seat_of}
 use Rattle.nqs_state.proofs.indexed.Indexed.enter.Goals as goal
