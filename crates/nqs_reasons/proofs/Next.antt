@@ -125,16 +125,21 @@ module _ (d : QueueDef) (now : ℕ) (s : Plain) (r : PlainRow) where
       told_last is_next (conditions d now s r) (next_in d now s r)
       (list_all-weaker (λ c. is_of_condition c.1) (λ c. not (is_next c.1)) (λ c. not_next c.1) (conditions d now s r) each_of_condition) refl
 
-  pub next_is : (place : ℕ) → slice_get s.rows place ≡ Some r → find_queue r.queue s ≡ Some d
-      → is_next (reason_of now s r) ≡ (may_start now s d && is_eligible d now s r)
-  next_is place at found =
-      ap (λ o. is_next (reason_in o now s r)) found
-      ∙ told_next
-      ∙ all_conditions
+  -- they all hold exactly where its queue may start a request and it may start from there
+  pub all_may : (place : ℕ) → slice_get s.rows place ≡ Some r → find_queue r.queue s ≡ Some d
+      → all_hold (conditions d now s r) ≡ (may_start now s d && is_eligible d now s r)
+  all_may place at found =
+      all_conditions
       ∙ ap (λ b. (d.started && is_within_limits d s) && (b && is_ready r && nat_le r.job.earliest now && user && kind_allows d.kind d now s r))
       (sym (found_named r.queue s d found))
       ∙ implied (d.started && is_within_limits d s) (has_eligible now s d) (is_eligible d now s r)
       (λ e. any_passes_from_place (is_eligible d now s) s.rows place r at e)
+
+  pub next_is : (place : ℕ) → slice_get s.rows place ≡ Some r → find_queue r.queue s ≡ Some d
+      → is_next (reason_of now s r) ≡ (may_start now s d && is_eligible d now s r)
+  next_is place at found =
+      ap (λ o. is_next (reason_in o now s r)) found
+      ∙ told_next ∙ all_may place at found
 
   -- a request that is next is told how many go first
   pub next_said : find_queue r.queue s ≡ Some d → is_next (reason_of now s r) ≡ true → reason_of now s r ≡ next_in d now s r

@@ -1,5 +1,5 @@
 -- What the reasons of requests say of what the scheduler starts.
-use Rattle.std.proofs.Common.{◌≡◌, ◌≢◌, ◌⊎◌, ℕ, ◌<◌, ◌≤◌, ◌==◌, Bool, true, false, ◌&&◌, ◌||◌, nat_lt, nat_le, not, List, [], ◌∷◌, ◌++◌, map, filter, length}
+use Rattle.std.proofs.Common.{◌≡◌, ◌≢◌, ◌⊎◌, ℕ, ◌<◌, ◌≤◌, Bool, true, false, ◌&&◌, nat_lt, nat_le, not, List, [], ◌∷◌, ◌++◌, map, filter, length}
 use Rattle.std.proofs.Common.{find, slice_get, Option, None, Some, is_some, zero, suc, inl, inr, refl, sym, ap, subst, ◌∙◌, true≢false, arith, option_map, cond}
 use Rattle.std.proofs.lemmas.Bool.Decides.{nat_tests}
 use Rattle.std.proofs.lemmas.Bool.{cases_lt, and_from}

@@ -44,7 +44,7 @@ use Rattle.nqs_reasons.specs.Chosen.{may_be_tried}
 use Rattle.nqs_reasons.proofs.Failing.{not_told, not_said}
 
 -- something has a place exactly where something passes
-some_place : {V : Type 0} (t : V → Bool) (vs : List V) → is_some (position t vs) ≡ list_any t vs
+pub some_place : {V : Type 0} (t : V → Bool) (vs : List V) → is_some (position t vs) ≡ list_any t vs
 some_place t vs = some (position_or_len t vs) (nat_lt (position_or_len t vs) (length vs)) ∙ within vs
   where
     some : (n : ℕ) (b : Bool) → is_some (cond b (Some n) None) ≡ b

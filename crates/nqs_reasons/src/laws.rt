@@ -1,7 +1,7 @@
 //! Laws of reasons: what they say of what the scheduler starts.
 
-ghost use Rattle.std.specs.Prelude.{◌≡◌, ◌≢◌, ℕ, ◌≤◌, ◌&&◌, Bool, true, false, List, slice_get, Option, None, Some, IfSome, is_some};
-ghost use Rattle.std.specs.List.{list_any};
+ghost use Rattle.std.specs.Prelude.{◌≡◌, ◌≢◌, ℕ, ◌≤◌, ◌&&◌, Bool, true, false, List, [], ◌∷◌, slice_get, Option, None, Some, IfSome, is_some};
+ghost use Rattle.std.specs.List.{list_any, list_all};
 ghost use Rattle.nqs_state.specs.State.{State, Plain};
 ghost use Rattle.nqs_base.specs.declared.extent.Extent.{Extent};
 ghost use Rattle.nqs_types.specs.declared.ids.Dest.{Dest};
@@ -14,9 +14,10 @@ ghost use Rattle.nqs_rules.specs.Order.{is_eligible, pick};
 ghost use Rattle.nqs_rules.specs.Picked.{PlainRow, may_start, IsFirstRow, IsNextQueue, row_place};
 ghost use Rattle.nqs_rules.specs.Plain.{map_row, map_state};
 ghost use Rattle.nqs_rules.specs.Routing.{may_try};
-ghost use Rattle.nqs_rules.specs.Reasons.{Conditions, first_failing, reason_of, count_before};
+ghost use Rattle.nqs_rules.specs.Reasons.{Conditions, first_failing, reason_of, reasons_of, count_before};
 ghost use Rattle.nqs_rules.specs.Answers.{answer_of};
 ghost use Rattle.nqs_reasons.specs.Chosen.{is_next, may_be_tried, IsFirstFailing, IsAtOrBefore};
+ghost use Rattle.nqs_reasons.specs.Says.{Has, Says};
 ghost use Rattle.nqs_rules.specs.Why.{why_lines};
 ghost use Rattle.nqs_types.specs.declared.reason.Reason.{Reason};
 ghost use Rattle.nqs_types.specs.declared.reason.Reason.TheVariants.{NoQueue, NoDestination, Next};
@@ -27,6 +28,26 @@ ghost use Rattle.nqs_types.specs.declared.reason.DestAnswer.{DestAnswer};
 pub fn first_failing_is_told()
     ensures told { (cs : Conditions Reason) (last : Reason) → IsFirstFailing cs last (first_failing cs last) }
     ensures only { (cs : Conditions Reason) (last answer : Reason) → IsFirstFailing cs last answer → answer ≡ first_failing cs last }
+{}
+
+/// Each reason of a request of a host says what `Says` has for it, in words of the state: it is
+/// told just where that is so.
+pub fn each_reason_says_what_it_says()
+    ensures says { (now : ℕ) (s : Plain) (place : ℕ) (r : PlainRow) (x : Reason) → slice_get s.rows place ≡ Some r → Has (reasons_of now s r) x
+        → Says now s r x }
+    ensures told { (now : ℕ) (s : Plain) (place : ℕ) (r : PlainRow) (x : Reason) → slice_get s.rows place ≡ Some r → Says now s r x
+        → Has (reasons_of now s r) x }
+{}
+
+/// All that keeps a request is told, the first condition that fails before the others. Nothing else
+/// than that it is next is told just where its queue may start a request and it may start from
+/// there; and then that alone.
+pub fn all_reasons_are_told()
+    ensures first { (now : ℕ) (s : Plain) (r : PlainRow) → (rest : List Reason) × (reasons_of now s r ≡ reason_of now s r ∷ rest) }
+    ensures complete { (now : ℕ) (s : Plain) (place : ℕ) (r : PlainRow) (d : QueueDef) → slice_get s.rows place ≡ Some r → find_queue r.queue s ≡ Some d
+        → list_all is_next (reasons_of now s r) ≡ (may_start now s d && is_eligible d now s r) }
+    ensures alone { (now : ℕ) (s : Plain) (place : ℕ) (r : PlainRow) (n : ℕ) → slice_get s.rows place ≡ Some r → Has (reasons_of now s r) (Next n)
+        → reasons_of now s r ≡ Next n ∷ [] }
 {}
 
 /// A request of a host is next exactly where its queue may start a request, and it is one that may
@@ -78,6 +99,8 @@ pub fn answers_say_what_may_be_tried()
 /// None of it depends on stored bytes, and so nothing that is told of a request does.
 pub fn reason_looks_at_no_bytes()
     ensures reason { (f : Extent → List ℕ) (now : ℕ) (s : State Extent) (r : Row Extent) → reason_of now (map_state f s) (map_row f r) ≡ reason_of now s r }
+    ensures reasons { (f : Extent → List ℕ) (now : ℕ) (s : State Extent) (r : Row Extent)
+        → reasons_of now (map_state f s) (map_row f r) ≡ reasons_of now s r }
     ensures count { (f : Extent → List ℕ) (now : ℕ) (s : State Extent) (r : Row Extent)
         → count_before now (map_state f s) (map_row f r) ≡ count_before now s r }
     ensures answer { (f : Extent → List ℕ) (now : ℕ) (s : State Extent) (r : Row Extent) (dest : Dest)

@@ -1,17 +1,17 @@
 //! All that is told of a request that is asked about.
 
-ghost use Rattle.std.specs.Prelude.{◌≡◌, ◌++◌, map, codes, IfOk, OnOk};
+ghost use Rattle.std.specs.Prelude.{◌≡◌, ◌++◌, map, codes, flat_map, IfOk, OnOk};
 ghost use Rattle.std.specs.Fmt.{decimal};
 ghost use Rattle.nqs_state.specs.State.{content};
 ghost use Rattle.nqs_rules.specs.Find.{find_queue};
 ghost use Rattle.nqs_rules.specs.Answers.{answer_of};
 ghost use Rattle.nqs_rules.specs.Reasons.{count_before};
-ghost use Rattle.nqs_rules.specs.Why.{reason_line, dest_line, dest_lines, before_lines, why_lines};
+ghost use Rattle.nqs_rules.specs.Why.{reason_line, dest_line, dest_lines, told_lines, before_lines, why_lines};
 ghost use Rattle.nqs_types.specs.declared.reason.Reason.TheVariants.{NoDestination};
 
 use crate::answers::answer;
 use crate::text::{put_answer, put_count, put_reason};
-use crate::told::{count_before, reason};
+use crate::told::{count_before, reasons};
 use nqs_base::{Bytes, Items, ListOf, Memory, Name};
 use nqs_put::{put_host, put_id, put_text};
 use nqs_state::HostState;
@@ -164,9 +164,43 @@ fn add_before(
     Ok(lines)
 }
 
-/// What is told of a request of the host at a moment, in seconds since 1970: why it doesn't run,
-/// where none of its queue's destinations may be tried what each answered, and of a queued one how
-/// many wait before it. Each is a line, without a line end. It fails for want of memory alone.
+// The lines, and those of a reason of the row.
+fn add_reason(
+    alloc: Global,
+    state: &HostState,
+    lines: Items<Bytes>,
+    row: &Row,
+    reason: &Reason,
+    now: u64,
+) -> Result<Items<Bytes>, Memory>
+    ensures { IfOk result (λ more. more ≡ lines ++ told_lines now (content state.now) row.now reason.now) }
+{
+    let mut lines = lines;
+    lines.push(reason_line(alloc, state.site.as_slice(), row, reason)?)?;
+    add_dest_lines(alloc, state, lines, row, reason, now)
+}
+
+// The lines of the row's reasons.
+fn lines_of(
+    alloc: Global,
+    state: &HostState,
+    row: &Row,
+    reasons: &[Reason],
+    now: u64,
+) -> Result<Items<Bytes>, Memory>
+    ensures { IfOk result (λ lines. lines ≡ flat_map (told_lines now (content state.now) row.now) reasons.now) }
+{
+    let mut lines = Items::new(alloc);
+    for reason in reasons {
+        lines = add_reason(alloc, state, lines, row, reason, now)?;
+    }
+    Ok(lines)
+}
+
+/// What is told of a request of the host at a moment, in seconds since 1970: all reasons why it
+/// doesn't run, where none of its queue's destinations may be tried what each answered, and of a
+/// queued one how many wait before it. Each is a line, without a line end. It fails for want of
+/// memory alone.
 pub fn why_lines(
     alloc: Global,
     state: &HostState,
@@ -175,9 +209,7 @@ pub fn why_lines(
 ) -> Result<Items<Bytes>, Memory>
     ensures { IfOk result (λ lines. lines ≡ why_lines now (content state.now) row.now) }
 {
-    let reason = reason(state, row, now);
-    let line = reason_line(alloc, state.site.as_slice(), row, &reason)?;
-    let lines = Items::of(alloc, line)?;
-    let lines = add_dest_lines(alloc, state, lines, row, &reason, now)?;
+    let reasons = reasons(alloc, state, row, now)?;
+    let lines = lines_of(alloc, state, row, reasons.as_slice(), now)?;
     add_before(alloc, state, lines, row, now)
 }

@@ -1,6 +1,6 @@
--- Why a request doesn't start: the first condition of the scheduler's rule that fails. First comes
--- what a command or a moment ends. Then come the limits from the narrowest to the widest: what ends
--- under one leaves room under the wider ones too. Devices and destinations come at last.
+-- Why a request doesn't start: the conditions of the scheduler's rule that fail, in order. First
+-- comes what a command or a moment ends. Then come the limits from the narrowest to the widest: what
+-- ends under one leaves room under the wider ones too. Devices and destinations come at last.
 use Rattle.std.specs.Prelude.{ℕ, Bool, ◌&&◌, nat_lt, nat_le, if◌then◌else◌, List, [], ◌∷◌, ◌++◌, map, filter, length, Option, None, Some, unwrap_or}
 use Rattle.nqs_base.specs.Same.{name_eq}
 use Rattle.nqs_state.specs.State.{State}
@@ -29,6 +29,16 @@ abbrev pub first_failing : {A : Type 0} → Conditions A → A → A
 first_failing [] last = last
 first_failing (c ∷ cs) last = if c.0 then first_failing cs last else c.1
 
+-- what is told of each condition that fails, in order
+abbrev pub failing : {A : Type 0} → Conditions A → List A
+failing [] = []
+failing (c ∷ cs) = if c.0 then failing cs else c.1 ∷ failing cs
+
+-- a list, and where it is empty the last answer alone
+abbrev pub or_last : {A : Type 0} → List A → A → List A
+or_last [] last = last ∷ []
+or_last (x ∷ xs) last = x ∷ xs
+
 -- why a request that isn't queued doesn't wait
 abbrev pub state_reason : RowState → Reason
 state_reason Running = Runs
@@ -42,10 +52,13 @@ hold_reason User = HeldByUser
 hold_reason No = HeldByUser
 
 module _ {E : Type 0} where
+  -- of a request that waits: nobody holds it, and its earliest start has come
+  abbrev pub own_conditions : ℕ → Row E → Conditions Reason
+  own_conditions now r = (is_unheld r.hold, hold_reason r.hold) ∷ (nat_le r.job.earliest now, NotBefore r.job.earliest) ∷ []
+
   -- of the request itself: it is queued, nobody holds it, and its earliest start has come
   abbrev pub row_conditions : ℕ → Row E → Conditions Reason
-  row_conditions now r =
-      (is_queued r.state, state_reason r.state) ∷ (is_unheld r.hold, hold_reason r.hold) ∷ (nat_le r.job.earliest now, NotBefore r.job.earliest) ∷ []
+  row_conditions now r = (is_queued r.state, state_reason r.state) ∷ own_conditions now r
 
   -- of its queue: it is started, and has fewer active requests of the owner than the user limit,
   -- and of all owners than the run limit
@@ -69,6 +82,10 @@ module _ {E : Type 0} where
   kind_conditions Device d now s r = (kind_allows Device d now s r, NoDevice r.job.forms) ∷ []
   kind_conditions Pipe d now s r = (kind_allows Pipe d now s r, NoDestination) ∷ []
 
+  -- all conditions of a start of a request that waits in a queue, in order
+  abbrev pub wait_conditions : QueueDef → ℕ → State E → Row E → Conditions Reason
+  wait_conditions d now s r = own_conditions now r ++ (queue_conditions d s r ++ kind_conditions d.kind d now s r)
+
   -- all conditions of a start from a queue, in order
   abbrev pub conditions : QueueDef → ℕ → State E → Row E → Conditions Reason
   conditions d now s r = row_conditions now r ++ (queue_conditions d s r ++ kind_conditions d.kind d now s r)
@@ -81,12 +98,26 @@ module _ {E : Type 0} where
   abbrev pub next_in : QueueDef → ℕ → State E → Row E → Reason
   next_in d now s r = Next (length (filter (goes_first d now s r) s.rows))
 
-  -- why a request of this queue, if it is there, doesn't start
+  -- the first reason why a request of this queue, if it is there, doesn't start
   abbrev pub reason_in : Option QueueDef → ℕ → State E → Row E → Reason
   reason_in None now s r = first_failing (row_conditions now r) NoQueue
   reason_in (Some d) now s r = first_failing (conditions d now s r) (next_in d now s r)
 
-  -- why a request doesn't start at a moment
+  -- all that keeps a request that waits in this queue, if it is there; where nothing does, how many
+  -- go first
+  abbrev pub keeping : Option QueueDef → ℕ → State E → Row E → List Reason
+  keeping None now s r = failing (own_conditions now r) ++ NoQueue ∷ []
+  keeping (Some d) now s r = or_last (failing (wait_conditions d now s r)) (next_in d now s r)
+
+  -- the reasons of a request of this queue: one where it doesn't wait, else all that keep it
+  abbrev pub reasons_in : Option QueueDef → ℕ → State E → Row E → List Reason
+  reasons_in o now s r = if is_queued r.state then keeping o now s r else state_reason r.state ∷ []
+
+  -- all reasons why a request doesn't start at a moment, in order
+  abbrev pub reasons_of : ℕ → State E → Row E → List Reason
+  reasons_of now s r = reasons_in (find_queue r.queue s) now s r
+
+  -- the first reason why a request doesn't start at a moment
   abbrev pub reason_of : ℕ → State E → Row E → Reason
   reason_of now s r = reason_in (find_queue r.queue s) now s r
 

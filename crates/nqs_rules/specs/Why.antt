@@ -1,6 +1,7 @@
 -- Why a request doesn't run, as it is told: the texts of reasons, and of the answers of
 -- destinations.
 use Rattle.std.specs.Prelude.{ℕ, ◌==◌, nat_le, if◌then◌else◌, List, [], ◌∷◌, ◌++◌, map, codes, Option, None, Some}
+use Rattle.std.specs.List.{flat_map}
 use Rattle.std.specs.Fmt.{decimal}
 use Rattle.nqs_text.specs.Dates.{date_text, last_moment}
 use Rattle.nqs_state.specs.State.{State}
@@ -8,7 +9,7 @@ use Rattle.nqs_rules.specs.Tests.{is_queued}
 use Rattle.nqs_rules.specs.Find.{find_queue}
 use Rattle.nqs_rules.specs.Handover.{name_at}
 use Rattle.nqs_rules.specs.Text.{Text, id_text}
-use Rattle.nqs_rules.specs.Reasons.{reason_of, count_before}
+use Rattle.nqs_rules.specs.Reasons.{reasons_of, count_before}
 use Rattle.nqs_rules.specs.Answers.{answer_of}
 use Rattle.nqs_types.specs.declared.ids.RequestId.{RequestId}
 use Rattle.nqs_types.specs.declared.ids.Dest.{Dest}
@@ -84,9 +85,11 @@ abbrev pub before_lines : RowState → ℕ → List Text
 before_lines state count = if is_queued state then (codes "Requests that wait before it: " ++ decimal count ++ codes ".") ∷ [] else []
 
 module _ {E : Type 0} where
-  -- what is told of a request at a moment: its reason, its destinations, and how many wait before
-  -- it
+  -- a reason of a request, and behind it the destinations, where none may be tried
+  abbrev pub told_lines : ℕ → State E → Row E → Reason → List Text
+  told_lines now s r reason =
+      reason_line s.site r.id r.queue reason ∷ dest_lines s.site reason (find_queue r.queue s) (answer_of now s r)
+
+  -- what is told of a request at a moment: all its reasons, and how many wait before it
   abbrev pub why_lines : ℕ → State E → Row E → List Text
-  why_lines now s r =
-      reason_line s.site r.id r.queue (reason_of now s r) ∷ dest_lines s.site (reason_of now s r) (find_queue r.queue s) (answer_of now s r)
-      ++ before_lines r.state (count_before now s r)
+  why_lines now s r = flat_map (told_lines now s r) (reasons_of now s r) ++ before_lines r.state (count_before now s r)

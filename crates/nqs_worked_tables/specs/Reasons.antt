@@ -15,7 +15,7 @@ use Rattle.nqs_types.specs.declared.queue.ComplexDef.{ComplexDef}
 use Rattle.nqs_types.specs.declared.queue.DeviceDef.{DeviceDef}
 use Rattle.nqs_types.specs.declared.reason.Reason.{Reason}
 use Rattle.nqs_types.specs.declared.reason.DestAnswer.{DestAnswer}
-use Rattle.nqs_rules.specs.Reasons.{reason_of, count_before}
+use Rattle.nqs_rules.specs.Reasons.{reason_of, reasons_of, count_before}
 use Rattle.nqs_rules.specs.Answers.{answer_of}
 use Rattle.nqs_rules.specs.Why.{why_lines}
 
@@ -30,6 +30,10 @@ runs owner seq queue = record (queued seq) { queue = queue; job = job_of owner; 
 -- the reason of a request at the moment 50, where it is the last of the host's rows
 abbrev pub told : Plain → Row (List ℕ) → Reason
 told s r = reason_of 50 (record s { rows = s.rows ++ r ∷ [] }) r
+
+-- all reasons of a request at the moment 50, where it is the last of the host's rows
+abbrev pub all_told : Plain → Row (List ℕ) → List Reason
+all_told s r = reasons_of 50 (record s { rows = s.rows ++ r ∷ [] }) r
 
 -- a complex of the queue batch
 abbrev pub complex : List ℕ → ℕ → ComplexDef

@@ -9,7 +9,7 @@ ghost use Rattle.nqs_worked.specs.Definitions.{far, near};
 ghost use Rattle.nqs_text.specs.Dates.{date_text};
 ghost use Rattle.nqs_rules.specs.Reasons.{reason_of};
 ghost use Rattle.nqs_rules.specs.Why.{reason_text, answer_text};
-ghost use Rattle.nqs_worked_tables.specs.Reasons.{ours, told, busy, without_queue, printing, to_print, moving, to_move, waiting};
+ghost use Rattle.nqs_worked_tables.specs.Reasons.{ours, told, all_told, busy, without_queue, printing, to_print, moving, to_move, waiting};
 ghost use Rattle.nqs_worked_tables.specs.Reasons.{ranked, of_bob, lined_up, told_among, counted_among, hand, answered, asked, parting, stopped, from_afar};
 ghost use Rattle.nqs_types.specs.declared.reason.Reason.TheVariants.{Runs, OnItsWay, HeldByUser, HeldBySystem, NotBefore, NoQueue, QueueStopped, UserLimit};
 ghost use Rattle.nqs_types.specs.declared.reason.Reason.TheVariants.{RunLimit, ComplexLimit, GlobalLimit, NoDevice, NoDestination, Next};
@@ -65,6 +65,35 @@ pub fn pipe_queues_are_told()
     ensures far { map (λ n. told (moving true None 2) (to_move n)) (0 ∷ 31 ∷ 32 ∷ []) ≡ NoDestination ∷ NoDestination ∷ Next 0 ∷ [] }
     ensures refused { map (λ d. told (record (moving true None 2) { hands = [] }) (record (to_move 0) { refused = record { dest = d; cause = 19 } ∷ [] }))
         (far ∷ near ∷ []) ≡ NoDestination ∷ Next 0 ∷ [] }
+{}
+
+/// All reasons of a request at once: each pair of neighbours, where nothing else keeps it, then
+/// three with gaps between, and all that there can be; and the one of a request that runs, is on
+/// its way, or is kept by nothing but the order.
+pub fn all_reasons_are_told()
+    ensures own { map (all_told (busy true None 9 9 9 9)) (record (ours (codes "batch") 51) { hold = User }
+        ∷ record (ours (codes "batch") 51) { hold = System } ∷ []) ≡ (HeldByUser ∷ NotBefore 51 ∷ []) ∷ (HeldBySystem ∷ NotBefore 51 ∷ []) ∷ [] }
+    ensures early { map (λ started. all_told (busy started None 9 9 9 9) (ours (codes "batch") 51)) (false ∷ true ∷ [])
+        ≡ (NotBefore 51 ∷ QueueStopped ∷ []) ∷ (NotBefore 51 ∷ []) ∷ [] }
+    ensures neighbours { map (λ s. all_told s waiting) (busy false (Some 1) 9 9 9 9 ∷ busy true (Some 1) 2 9 9 9 ∷ busy true None 2 2 9 9
+        ∷ busy true None 9 2 2 9 ∷ busy true None 9 9 2 2 ∷ []) ≡ (QueueStopped ∷ UserLimit 1 ∷ []) ∷ (UserLimit 1 ∷ RunLimit 2 ∷ [])
+        ∷ (RunLimit 2 ∷ ComplexLimit (codes "one") 2 ∷ []) ∷ (ComplexLimit (codes "one") 2 ∷ ComplexLimit (codes "two") 2 ∷ [])
+        ∷ (ComplexLimit (codes "two") 2 ∷ GlobalLimit 2 ∷ []) ∷ [] }
+    ensures gaps { all_told (busy false None 9 2 9 9) (record waiting { hold = User }) ≡ HeldByUser ∷ QueueStopped ∷ ComplexLimit (codes "one") 2 ∷ [] }
+    ensures whole { all_told (busy false (Some 1) 2 2 2 2) (record (ours (codes "batch") 51) { hold = System })
+        ≡ HeldBySystem ∷ NotBefore 51 ∷ QueueStopped ∷ UserLimit 1 ∷ RunLimit 2 ∷ ComplexLimit (codes "one") 2 ∷ ComplexLimit (codes "two") 2
+        ∷ GlobalLimit 2 ∷ [] }
+    ensures devices { map (λ s. all_told s (to_print None)) (printing true None 1 (codes "ink" ∷ []) ∷ printing false (Some 1) 1 (codes "ink" ∷ [])
+        ∷ printing false (Some 1) 1 (codes "ink" ∷ codes "laser" ∷ []) ∷ []) ≡ (RunLimit 1 ∷ NoDevice None ∷ [])
+        ∷ (QueueStopped ∷ UserLimit 1 ∷ RunLimit 1 ∷ NoDevice None ∷ []) ∷ (QueueStopped ∷ UserLimit 1 ∷ RunLimit 1 ∷ []) ∷ [] }
+    ensures pipes { map (λ n. all_told (moving false (Some 1) 1) (to_move n)) (31 ∷ 32 ∷ []) ≡ (QueueStopped ∷ UserLimit 1 ∷ RunLimit 1 ∷ NoDestination ∷ [])
+        ∷ (QueueStopped ∷ UserLimit 1 ∷ RunLimit 1 ∷ []) ∷ [] }
+    ensures destination { all_told (moving true None 1) (to_move 31) ≡ RunLimit 1 ∷ NoDestination ∷ [] }
+    ensures no_queue { map (all_told without_queue) (record (ours (codes "batch") 51) { hold = User } ∷ ours (codes "batch") 51 ∷ waiting ∷ [])
+        ≡ (HeldByUser ∷ NotBefore 51 ∷ NoQueue ∷ []) ∷ (NotBefore 51 ∷ NoQueue ∷ []) ∷ (NoQueue ∷ []) ∷ [] }
+    ensures started { map (all_told (busy false (Some 1) 2 2 2 2)) (record (ours (codes "batch") 51) { state = Running; hold = User }
+        ∷ record (ours (codes "batch") 51) { state = Routing; hold = System } ∷ []) ≡ (Runs ∷ []) ∷ (OnItsWay ∷ []) ∷ [] }
+    ensures next { map (all_told (lined_up (ranked 31 4 ∷ ranked 40 2 ∷ []))) (ranked 41 9 ∷ ranked 31 9 ∷ []) ≡ (Next 0 ∷ []) ∷ (Next 2 ∷ []) ∷ [] }
 {}
 
 /// How many come before: of greater priority, or of the same one and earlier, in the same queue,
@@ -132,10 +161,14 @@ pub fn dates_are_spelled()
 {}
 
 /// All that is told of a request: of one in a stopped queue, whether others come before it or not,
-/// of one that is too early, of one in a pipe queue with two destinations, and of one that has two
-/// before it.
+/// and whether limits are reached too; of one that is too early, of one in a pipe queue with two
+/// destinations, held or not, and of one that has two before it.
 pub fn requests_are_explained()
-    ensures is_stopped { asked (busy false (Some 1) 2 2 2 2) waiting ≡ codes "Request 9.alpha: queue batch is stopped."
+    ensures is_stopped { asked (busy false None 9 9 9 9) waiting ≡ codes "Request 9.alpha: queue batch is stopped."
+        ∷ codes "Requests that wait before it: 0." ∷ [] }
+    ensures all { asked (busy false (Some 1) 2 9 2 2) waiting ≡ codes "Request 9.alpha: queue batch is stopped."
+        ∷ codes "Request 9.alpha: the user limit 1 of queue batch is reached." ∷ codes "Request 9.alpha: the run limit 2 of queue batch is reached."
+        ∷ codes "Request 9.alpha: the limit 2 of complex two is reached." ∷ codes "Request 9.alpha: the global limit 2 is reached."
         ∷ codes "Requests that wait before it: 0." ∷ [] }
     ensures is_behind { asked (stopped (ranked 40 1 ∷ ranked 31 8 ∷ ranked 31 10 ∷ [])) (ranked 31 9) ≡ codes "Request 9.alpha: queue batch is stopped."
         ∷ codes "Requests that wait before it: 2." ∷ [] }
@@ -144,6 +177,10 @@ pub fn requests_are_explained()
     ensures dests { asked parting (record (to_move 0) { refused = record { dest = near; cause = 19 } ∷ [] })
         ≡ codes "Request 9.alpha: no destination of queue link may be tried now." ∷ codes "batch@beta: its host is being handed another request."
         ∷ codes "batch@alpha: refused with number 19." ∷ codes "Requests that wait before it: 0." ∷ [] }
+    ensures two { asked parting (record (to_move 0) { hold = System; refused = record { dest = near; cause = 19 } ∷ [] })
+        ≡ codes "Request 9.alpha: the system holds it." ∷ codes "Request 9.alpha: no destination of queue link may be tried now."
+        ∷ codes "batch@beta: its host is being handed another request." ∷ codes "batch@alpha: refused with number 19."
+        ∷ codes "Requests that wait before it: 0." ∷ [] }
     ensures open { asked parting (to_move 0) ≡ codes "Request 9.alpha: it is next in queue link." ∷ codes "Requests that wait before it: 0." ∷ [] }
     ensures next { asked (lined_up (ranked 40 1 ∷ ranked 31 8 ∷ ranked 31 10 ∷ [])) (ranked 31 9)
         ≡ codes "Request 9.alpha: 2 requests of the queue come before it." ∷ codes "Requests that wait before it: 2." ∷ [] }

@@ -26,3 +26,11 @@ returns-clause-open c = refl
 pub returns-clause-next : goal.returns-clause-next
 unfolding digits
 returns-clause-next c = refl
+
+pub returns-clause-all : goal.returns-clause-all
+unfolding digits
+returns-clause-all c = refl
+
+pub returns-clause-two : goal.returns-clause-two
+unfolding digits
+returns-clause-two c = refl
