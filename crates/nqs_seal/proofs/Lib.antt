@@ -1,0 +1,5 @@
+pub mod Told
+pub mod Opened
+pub mod Tags
+pub mod Same
+pub mod Keys
