@@ -1,6 +1,6 @@
 -- Why a request doesn't start: the conditions of the scheduler's rule that fail, in order. First
--- comes what a command or a moment ends. Then come the limits from the narrowest to the widest: what
--- ends under one leaves room under the wider ones too. Devices and destinations come at last.
+-- comes what a command or a moment ends. Then come the limits from the narrowest to the widest:
+-- what ends under one leaves room under the wider ones too. Devices and destinations come at last.
 use Rattle.std.specs.Prelude.{ℕ, Bool, ◌&&◌, nat_lt, nat_le, if◌then◌else◌, List, [], ◌∷◌, ◌++◌, map, filter, length, Option, None, Some, unwrap_or}
 use Rattle.nqs_base.specs.Same.{name_eq}
 use Rattle.nqs_state.specs.State.{State}
