@@ -14,6 +14,7 @@ mod daemon;
 mod event;
 pub mod laws;
 mod letter;
+mod notes;
 mod receive;
 mod said;
 mod sort;
@@ -22,4 +23,5 @@ mod text;
 
 pub use comeback::Comeback;
 pub use daemon::{ServeEnd, serve};
+pub use notes::Notes;
 pub use sort::{IgnoreCause, Sorted, sort_datagram};
