@@ -1,9 +1,8 @@
 -- How the daemon ends, by how the loading, the boot and the serving did.
-use Rattle.std.proofs.Common.{◌≡◌, inl, inr, ℕ, Bool, IsTrue, List, [], Some, refl, sym, subst}
+use Rattle.std.proofs.Common.{◌≡◌, inl, inr, ℕ, Bool, IsTrue, List, [], ◌∷◌, Some, None, refl, sym, subst}
 use Rattle.nqs_base.specs.Want.{want}
 use Rattle.nqs_state.specs.State.{Plain}
 use Rattle.nqs_types.specs.declared.change.Change.TheVariants.{Boot}
-use Rattle.nqs_types.specs.declared.event.Output.{Output}
 use Rattle.nqs_types.specs.declared.ids.HostId.{HostId}
 use Rattle.nqs_types.specs.declared.world.Which.{Which}
 use Rattle.nqs_rules.specs.Applied.{applied}
@@ -18,21 +17,23 @@ use Rattle.nqs_store.specs.Faults.{IsLoadFault}
 use Rattle.nqs_store.specs.Images.{IsTold}
 use Rattle.nqs_store.specs.declared.fault.LoadFault.{LoadFault}
 use Rattle.nqs_store.specs.declared.fault.LoadFault.TheVariants as load
-use Rattle.nqs_node.specs.Carried.{after_kept, IsOneOrOther}
+use Rattle.nqs_node.specs.Carried.{Kept, after_kept, IsOneOrOther}
 use Rattle.nqs_node.specs.Nodes.{content_of, history_of, Tells}
 use Rattle.nqs_node.specs.declared.node.Node.{Node}
 use Rattle.nqs_node.proofs.Booting.{quiet_one}
 use Rattle.nqs_node.proofs.Nothing.{told_images}
 use Rattle.nqs_node.proofs.Performing.{still_broken_off}
-use Rattle.nqs_serve.specs.Ends.{EndsWith, Broke, IsBroken}
+use Rattle.nqs_serve.specs.Ends.{EndsWith, IsBroken}
+use Rattle.nqs_serve.specs.Keeping.{IsWhole, AreKept}
 use Rattle.nqs_serve.specs.Moments.{TellsThroughout, IsPassed}
 use Rattle.nqs_serve.specs.Runs.{Act, Turn, idle, Begun}
+use Rattle.nqs_serve.proofs.Ending.{cut_as}
 use Rattle.nqs_serve.proofs.Moments.{through_made, through_then, through_as}
 use Rattle.nqs_serve.specs.declared.daemon.ServeEnd.{ServeEnd}
 use Rattle.nqs_serve.specs.declared.daemon.ServeEnd.TheVariants as end
 use Rattle.nqs_clients.specs.declared.status.NqsStatus.{NqsStatus}
 use Rattle.nqs_clients.specs.declared.status.NqsStatus.TheVariants as nqs
-use Rattle.nqs_cli.specs.Daemons.{Outside, Unseen, IsUnasked, HasFailed, IsPassedSince, HasServed, HasDiskFault, Daemons, here_of}
+use Rattle.nqs_cli.specs.Daemons.{Outside, Unseen, IsUnasked, HasFailed, IsPassedSince, HasServed, HasDiskFault, Daemons, here_of, booted}
 use Rattle.nqs_cli.specs.Ends.{status_of_fault, status_of_serve}
 use Rattle.nqs_cli.specs.Formats.{AreSame}
 use Rattle.nqs_cli.specs.Parts.{DisksTold}
@@ -45,22 +46,39 @@ leaves node s k telling tells same =
     (subst (λ (t : Plain). EachImage (history_of node) (λ images. IsTold images t)) tells.is
     (told_images node.store (content_of node) telling tells.told))
 
-unseen : (At : Plain → Type 0) (steps : List (Stepped (List ℕ))) (s : Plain) (went : List Output) (h : Which → History) → Broke At steps s went h
-    → Broke Unseen steps s went h
-unseen At steps s went h broke = record { done = broke.done; left = broke.left; are = broke.are; at = tt; out = broke.out; leaves = broke.leaves }
+-- what the disks kept of calls, since before a boot
+pub kept_since : (a b : Active) (old mid new now : Which → History) (s : Plain) (calls : List (Stepped (List ℕ))) (failed : Kept)
+    → ((which : Which) → now which ≡ new which) → b ≡ after_kept (Some Boot) a → IsWhole a old mid (Some Boot)
+    → IsOneOrOther a old mid (Some Boot) s → AreKept b mid new (applied Boot s) calls failed → AreKept a old now s (booted ∷ calls) failed
+kept_since a b old mid new now s calls failed same active whole boot kept =
+    let rest : AreKept (after_kept (Some Boot) a) mid now (applied Boot s) calls failed =
+    subst (λ (x : Active). AreKept x mid now (applied Boot s) calls failed) active
+    (subst (λ (h : Which → History). AreKept b mid h (applied Boot s) calls failed) (λ j which. sym (same which) j) kept) in
+    (mid, whole, boot, rest)
 
 -- a run ends so where more than the state is told, of the same disks, and the host is seen no more
-pub ends_as : (P Q At : Plain → Type 0) (h k : Which → History) → ((s : Plain) → P s → Q s) → ((which : Which) → k which ≡ h which)
+pub ends_as : (P Q At : Plain → Type 0) (K L : List (Stepped (List ℕ)) → Kept → Type 0) (h k : Which → History) → ((s : Plain) → P s → Q s)
+    → ((done : List (Stepped (List ℕ))) (failed : Kept) → K done failed → L done failed) → ((which : Which) → k which ≡ h which)
     → (so : ServeEnd) (turns : ℕ)
     (bs : List Bool) (t : Turn) (more : Begun)
-    → EndsWith P At h so turns bs t more → EndsWith Q Unseen k so turns bs t more
-ends_as P Q At h k f same end.Shutdown turns bs t more e = (e.0, e.1, f t.state e.2, e.3)
-ends_as P Q At h k f same end.TurnsUsed turns bs t more e = (e.0, e.1, f t.state e.2, e.3, e.4)
-ends_as P Q At h k f same end.WireFault turns bs t more e = (e.0, e.1, f t.state e.2, e.3, e.4)
-ends_as P Q At h k f same end.DiskFault turns bs t more e =
-    let broken : IsBroken Unseen t more h = (e.0.0, e.0.1, e.0.2, e.0.3, e.0.4, e.0.5, unseen At _ _ _ h e.0.6) in
-    subst (λ (x : Which → History). EndsWith Q Unseen x end.DiskFault turns bs t more) (λ j which. sym (same which) j) (broken, e.1)
-ends_as P Q At h k f same (end.Memory memory) turns bs t more e = ((e.0.0, f e.0.0 e.0.1, e.0.2), e.1)
+    → EndsWith P At K h so turns bs t more → EndsWith Q Unseen L k so turns bs t more
+ends_as P Q At K L h k f lift same end.Shutdown turns bs t more e = (e.0, e.1, f t.state e.2, e.3, lift [] None e.4)
+ends_as P Q At K L h k f lift same end.TurnsUsed turns bs t more e = (e.0, e.1, f t.state e.2, e.3, e.4, lift [] None e.5)
+ends_as P Q At K L h k f lift same end.WireFault turns bs t more e = (e.0, e.1, f t.state e.2, e.3, e.4, lift [] None e.5)
+ends_as P Q At K L h k f lift same (end.DiskFault which) turns bs t more e =
+    let broke = e.0.6 in
+    let broken : IsBroken Unseen L t more h = (e.0.0, e.0.1, e.0.2, e.0.3, e.0.4, e.0.5, record {
+      done = broke.done;
+      next = broke.next;
+      left = broke.left;
+      are = broke.are;
+      at = tt;
+      out = broke.out;
+      kept = lift broke.done broke.next.change broke.kept;
+      leaves = broke.leaves;
+    }) in
+    subst (λ (x : Which → History). EndsWith Q Unseen L x (end.DiskFault which) turns bs t more) (λ j which. sym (same which) j) (broken, e.1)
+ends_as P Q At K L h k f lift same (end.Memory memory) turns bs t more e = ((e.0.0, f e.0.0 e.0.1, cut_as K L t more e.0.0 lift e.0.2), e.1)
 
 -- at each moment of the boot and of the run after it
 pub since_boot : (a b : Active) (old mid new now : Which → History) (s : Plain) (acts : List Act) (more : List ℕ)
@@ -119,10 +137,11 @@ module _ (tells : Bool) (me : HostId) (names : List (List ℕ)) (turns : ℕ) (w
 
   -- it was, and served
   pub has_served : (so : ServeEnd) (status : NqsStatus) → status ≡ status_of_serve so → HasServed tells me names turns was now so
-      → (so ≡ end.WireFault → Rose was.wire.receive_faults now.wire.receive_faults) → (so ≡ end.DiskFault → HasDiskFault was now)
+      → (so ≡ end.WireFault → Rose was.wire.receive_faults now.wire.receive_faults) → ((which : Which) → so ≡ end.DiskFault which → HasDiskFault was now)
       → Daemons tells me names turns was now status
   has_served end.Shutdown status is served wire disk = subst (Daemons tells me names turns was now) (sym is) served
   has_served end.TurnsUsed status is served wire disk = subst (Daemons tells me names turns was now) (sym is) served
   has_served end.WireFault status is served wire disk = subst (Daemons tells me names turns was now) (sym is) (served, wire refl)
-  has_served end.DiskFault status is served wire disk = subst (Daemons tells me names turns was now) (sym is) (disk refl, inl served)
+  has_served (end.DiskFault which) status is served wire disk =
+      subst (Daemons tells me names turns was now) (sym is) (disk which refl, inl (which, served))
   has_served (end.Memory memory) status is served wire disk = subst (Daemons tells me names turns was now) (sym is) (inl served)

@@ -1,6 +1,6 @@
 -- What `nqs daemon` does with the parts of a host: it loads the disks, and where they are those of
 -- this host it boots the host, and serves.
-use Rattle.std.specs.Prelude.{◌≡◌, ◌⊎◌, ℕ, ◌&&◌, Bool, true, false, IsTrue, List, [], ◌∷◌}
+use Rattle.std.specs.Prelude.{◌≡◌, ◌⊎◌, ℕ, ◌&&◌, Bool, true, false, IsTrue, List, [], ◌∷◌, ◌++◌}
 use Rattle.std.specs.declared.option.Option.{Option}
 use Rattle.std.specs.declared.option.Option.TheVariants.{Some}
 use Rattle.std.specs.Cmp.Lexicographic.{pointwise}
@@ -10,6 +10,7 @@ use Rattle.nqs_types.specs.declared.change.Change.TheVariants.{Boot}
 use Rattle.nqs_types.specs.declared.ids.HostId.{HostId}
 use Rattle.nqs_types.specs.declared.world.Which.{Which}
 use Rattle.nqs_rules.specs.Applied.{applied}
+use Rattle.nqs_rules.specs.Stepped.{Stepped}
 use Rattle.nqs_rules.specs.Tests.{same_host}
 use Rattle.nqs_outside.specs.Asked.{Asked, Print, Filing}
 use Rattle.nqs_outside.specs.Causes.{Rose}
@@ -26,11 +27,13 @@ use Rattle.nqs_store.specs.Commits.{EachImage}
 use Rattle.nqs_store.specs.Images.{IsTold}
 use Rattle.nqs_store.specs.declared.disks.Disks.{Disks}
 use Rattle.nqs_store.specs.declared.fault.LoadFault.TheVariants.{NotNqs}
-use Rattle.nqs_node.specs.Carried.{IsBrokenOff, IsOneOrOther}
+use Rattle.nqs_node.specs.Carried.{Kept, IsBrokenOff, IsOneOrOther}
 use Rattle.nqs_serve.specs.Ends.{EndsWith, stops}
 use Rattle.nqs_serve.specs.Events.{Here}
 use Rattle.nqs_serve.specs.Moments.{TellsThroughout, IsPassed}
-use Rattle.nqs_serve.specs.Runs.{Act, Turn, idle, Telling, telling, Begun, Ran}
+use Rattle.nqs_serve.specs.Keeping.{AreKept}
+use Rattle.nqs_serve.specs.Runs.{Act, Turn, idle, Begun, Ran, run_calls}
+use Rattle.nqs_serve.specs.Tellings.{Telling, telling}
 use Rattle.nqs_serve.specs.declared.daemon.ServeEnd.{ServeEnd}
 use Rattle.nqs_serve.specs.declared.daemon.ServeEnd.TheVariants as end
 use Rattle.nqs_clients.specs.declared.status.NqsStatus.{NqsStatus}
@@ -107,13 +110,24 @@ IsHere tells me names d = IsTrue tells → (s : Plain) × IsThere d s × (is_her
 abbrev pub IsPassedSince : Plain → List Act → List ℕ → Plain → Type 0
 IsPassedSince s acts more u = (u ≡ s) ⊎ IsPassed (here_of s) (idle (applied Boot s)) acts more u
 
+-- what a boot does of which nothing goes out
+abbrev pub booted : Stepped (List ℕ)
+booted = record { change = Some Boot; outputs = []; halts = false }
+
+-- the disks kept the boot of this host, and then these calls, further ones, and of this change a
+-- part
+abbrev pub KeptSince : Active → (was now : DisksTold) → Plain → List (Stepped (List ℕ)) → List (Stepped (List ℕ)) → Kept → Type 0
+KeptSince a was now s calls done failed = AreKept a was.histories now.histories s (booted ∷ calls ++ done) failed
+
 -- The disks told this host of this site. It was booted, and served until so an end: a run of the
 -- daemon from the state after the boot.
 abbrev pub HasServed : Bool → HostId → List (List ℕ) → ℕ → Outside → Outside → ServeEnd → Type 0
 HasServed tells me names turns was now end = IsTrue tells → (s : Plain) × IsThere was.disks s × (is_here me names s ≡ true)
-    × ((acts : List Act) × (t : Turn) × (more : Begun) × Ran (here_of s) acts (idle (applied Boot s)) t more (telling_of was) (telling_of now)
-    × EndsWith (Leaves now.disks) Unseen now.disks.histories end turns (stops (here_of s) (idle (applied Boot s)) acts) t more
-    × ((a : Active) × IsNamed was.disks a × TellsThroughout a was.disks.histories now.disks.histories (IsPassedSince s acts more.moments)))
+    × ((acts : List Act) × (t : Turn) × (more : Begun) × (a : Active) × IsNamed was.disks a
+    × Ran (here_of s) acts (idle (applied Boot s)) t more (telling_of was) (telling_of now)
+    × EndsWith (Leaves now.disks) Unseen (KeptSince a was.disks now.disks s (run_calls (here_of s) (idle (applied Boot s)) acts))
+    now.disks.histories end turns (stops (here_of s) (idle (applied Boot s)) acts) t more
+    × TellsThroughout a was.disks.histories now.disks.histories (IsPassedSince s acts more.moments))
 
 -- The disks tell no host, or another: they are left as they are.
 abbrev pub IsNotOurs : HostId → List (List ℕ) → DisksTold → DisksTold → Type 0
@@ -135,7 +149,7 @@ Daemons tells me names turns was now TurnsUsed = HasServed tells me names turns 
 Daemons tells me names turns was now WireFault =
     HasServed tells me names turns was now end.WireFault × Rose was.wire.receive_faults now.wire.receive_faults
 Daemons tells me names turns was now DiskFault = HasDiskFault was now
-    × (HasServed tells me names turns was now end.DiskFault ⊎ (IsUnasked was now × (IsTrue tells → HasFailed was.disks now.disks)))
+    × (((which : Which) × HasServed tells me names turns was now (end.DiskFault which)) ⊎ (IsUnasked was now × (IsTrue tells → HasFailed was.disks now.disks)))
 Daemons tells me names turns was now (Memory memory) = HasServed tells me names turns was now (end.Memory memory)
     ⊎ (IsUnasked was now × (IsTrue tells → AreSame was.disks.histories now.disks.histories))
 Daemons tells me names turns was now BadDisks = IsUnasked was now × (IsTrue tells → IsNotOurs me names was.disks now.disks)

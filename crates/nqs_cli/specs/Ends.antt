@@ -24,5 +24,5 @@ abbrev pub status_of_serve : ServeEnd → NqsStatus
 status_of_serve end.Shutdown = Done
 status_of_serve end.TurnsUsed = TurnsUsed
 status_of_serve end.WireFault = WireFault
-status_of_serve end.DiskFault = DiskFault
+status_of_serve (end.DiskFault which) = DiskFault
 status_of_serve (end.Memory memory) = Memory memory

@@ -46,7 +46,7 @@ fn status_of_serve(end: ServeEnd) -> NqsStatus
         ServeEnd::Shutdown => NqsStatus::Done,
         ServeEnd::TurnsUsed => NqsStatus::TurnsUsed,
         ServeEnd::WireFault => NqsStatus::WireFault,
-        ServeEnd::DiskFault => NqsStatus::DiskFault,
+        ServeEnd::DiskFault(_) => NqsStatus::DiskFault,
         ServeEnd::Memory(memory) => NqsStatus::Memory(memory),
     }
 }

@@ -126,7 +126,7 @@ fn end_text(end: &ServeEnd) -> &'static str {
         ServeEnd::Shutdown => "was shut down",
         ServeEnd::TurnsUsed => "ends: its turns are used up",
         ServeEnd::WireFault => "ends: its socket failed",
-        ServeEnd::DiskFault => "ends: a disk failed, or is full",
+        ServeEnd::DiskFault(_) => "ends: a disk failed, or is full",
         ServeEnd::Memory(_) => "ends: memory ran out",
     }
 }

@@ -116,6 +116,9 @@ impl<D: Disk> Node<D> {
         // It is false exactly where none may start.
         ensures more { IfOk result (λ more. more ≡ is_some (start now (content_of self.old))) }
 
+        // A call of a disk fails only where one may.
+        ensures due { (which : Which) → IsErrOf result (StoreFault.Disk which) → IsTrue (is_some (start now (content_of self.old))) }
+
         // Where none may start, nothing happens.
         ensures idle { IfOk result (λ more. more ≡ false → (content_of self.new ≡ content_of self.old) × (out.new.items ≡ out.old.items)) }
 

@@ -8,16 +8,23 @@ use Rattle.std.specs.declared.option.Option.{Option}
 use Rattle.std.specs.declared.option.Option.TheVariants.{Some}
 use Rattle.nqs_state.specs.State.{Plain}
 use Rattle.nqs_types.specs.declared.event.Event.{Event}
-use Rattle.nqs_outside.specs.Asked.{Arrival, Traffic, inbound, Asked, Print, Filing}
-use Rattle.nqs_outside.specs.Told.{Extends}
-use Rattle.nqs_outside.proofs.Told.{extends_none, extends_then, extends_same}
+use Rattle.nqs_rules.specs.Starts.{after_starts, after_step}
+use Rattle.nqs_rules.specs.Stepped.{Stepped}
+use Rattle.nqs_outside.specs.Asked.{Arrival, inbound}
+use Rattle.nqs_outside.proofs.Told.{extends_same}
 use Rattle.nqs_serve.specs.Events.{Here, event_in, stops_by}
-use Rattle.nqs_serve.specs.Steps.{after_event, outputs}
+use Rattle.nqs_serve.specs.Steps.{after_event, outputs, calls}
+use Rattle.nqs_serve.specs.Tellings.{Telling, Adds, AddsNone, Passes}
+use Rattle.nqs_serve.proofs.Tellings.{adds_none, adds_then}
 use Rattle.nqs_serve.specs.Runs.{Act, received, took, Turn, turn, idle, Outcome, outputs_in, brought_back, event_back, come_back, next, after, IsRun}
 use Rattle.nqs_serve.specs.Runs.{arrivals_of, moments_of, outcomes_of, arrivals, moments, sends, traffic_by, traffic, asked, asked_by, prints, prints_by}
-use Rattle.nqs_serve.specs.Runs.{filings, filings_by, Telling, telling, Begun, none_begun, begun, carried, Grew, Ran}
+use Rattle.nqs_serve.specs.Runs.{filings, filings_by, Begun, none_begun, begun, carried, Grew, Ran, next_calls, act_calls, run_calls}
 use Rattle.nqs_serve.specs.Ends.{stop_of, stops}
 use Rattle.nqs_serve.specs.declared.comeback.Comeback.{Comeback}
+
+pub starts_append : (xs ys : List (Stepped (List ℕ))) (s : Plain) → after_starts (xs ++ ys) s ≡ after_starts ys (after_starts xs s)
+starts_append [] ys s = refl
+starts_append (x ∷ xs) ys s = starts_append xs ys (after_step x s)
 
 module _ (here : Here) where
   pub after_append : (t : Turn) (xs ys : List Act) → after here t (xs ++ ys) ≡ after here (after here t xs) ys
@@ -33,6 +40,26 @@ module _ (here : Here) where
   stops_append t (x ∷ xs) ys =
       ap (λ (l : List Bool). stop_of here t x ++ l) (stops_append (next here t x) xs ys)
       ∙ sym (append_assoc (stop_of here t x) (stops here (next here t x) xs) (stops here (after here t (x ∷ xs)) ys))
+
+  -- what the calls of a run do after a run
+  pub calls_then : (xs ys : List Act) (t u : Turn) → after here t xs ≡ u → run_calls here t (xs ++ ys) ≡ run_calls here t xs ++ run_calls here u ys
+  calls_then xs ys t u leads = calls_append t xs ys ∙ ap (λ w. run_calls here t xs ++ run_calls here w ys) leads
+    where
+      calls_append : (t : Turn) (xs ys : List Act) → run_calls here t (xs ++ ys) ≡ run_calls here t xs ++ run_calls here (after here t xs) ys
+      calls_append t [] ys = refl
+      calls_append t (x ∷ xs) ys =
+          ap (λ (l : List (Stepped (List ℕ))). act_calls t x ++ l) (calls_append (next here t x) xs ys)
+          ∙ sym (append_assoc (act_calls t x) (run_calls here (next here t x) xs) (run_calls here (after here t (x ∷ xs)) ys))
+
+  -- the calls lead to the state behind the run
+  pub calls_lead : (acts : List Act) (s : Plain) (waits : List Event) → IsRun here (turn s waits) acts
+      → after_starts (run_calls here (turn s waits) acts) s ≡ (after here (turn s waits) acts).state
+  calls_lead [] s waits run = refl
+  calls_lead (received a ∷ acts) s waits run = calls_lead acts s (waits ++ option_to_list (event_in here a)) run.1
+  calls_lead (took m os ∷ acts) s [] run = absurd run.0
+  calls_lead (took m os ∷ acts) s (e ∷ es) run =
+      starts_append (calls m e s) (run_calls here (turn (after_event m e s) (es ++ come_back os)) acts) s
+      ∙ calls_lead acts (after_event m e s) (es ++ come_back os) run.1
 
   -- without a receive there is no stop
   pub stops_none : (t : Turn) (xs : List Act) → arrivals xs ≡ [] → stops here t xs ≡ []
@@ -59,37 +86,25 @@ pub of_moments : (xs ys : List Act) (more : List ℕ) → (moments xs ++ []) ++ 
 of_moments xs ys more = of_acts moments_of xs ys more
 
 module _ (here : Here) where
-  pub grew_none : (t : Telling) → Grew here [] none_begun t t
-  grew_none t = record {
-    traffic = extends_none t.traffic;
-    asked = extends_none t.asked;
-    prints = extends_none t.prints;
-    filings = extends_none t.filings;
-    given = extends_none t.given;
-  }
-
   pub grew_then : (xs ys : List Act) (more : Begun) (a b c : Telling) → Grew here xs none_begun a b → Grew here ys more b c → Grew here (xs ++ ys) more a c
-  grew_then xs ys more a b c one two = record {
-    traffic = extends_same a.traffic c.traffic ((traffic here xs ++ []) ++ (traffic here ys ++ sends here more.outcomes))
-        (traffic here (xs ++ ys) ++ sends here more.outcomes)
-        (of_acts (traffic_by here) xs ys (sends here more.outcomes))
-        (extends_then a.traffic b.traffic c.traffic (traffic here xs ++ []) (traffic here ys ++ sends here more.outcomes) one.traffic two.traffic);
-    asked = extends_same a.asked c.asked (asked (carried xs none_begun) ++ asked (carried ys more)) (asked (carried (xs ++ ys) more))
-        (of_carried (λ (o : Outcome). asked_by o.output o.ok) xs ys more)
-        (extends_then a.asked b.asked c.asked (asked (carried xs none_begun)) (asked (carried ys more)) one.asked two.asked);
-    prints = extends_same a.prints c.prints (prints (carried xs none_begun) ++ prints (carried ys more)) (prints (carried (xs ++ ys) more))
-        (of_carried (λ (o : Outcome). prints_by o.output o.ok) xs ys more)
-        (extends_then a.prints b.prints c.prints (prints (carried xs none_begun)) (prints (carried ys more)) one.prints two.prints);
-    filings = extends_same a.filings c.filings (filings (carried xs none_begun) ++ filings (carried ys more)) (filings (carried (xs ++ ys) more))
-        (of_carried (λ (o : Outcome). filings_by o.output o.ok) xs ys more)
-        (extends_then a.filings b.filings c.filings (filings (carried xs none_begun)) (filings (carried ys more)) one.filings two.filings);
-    given = extends_same a.given c.given ((moments xs ++ []) ++ (moments ys ++ more.moments)) (moments (xs ++ ys) ++ more.moments)
-        (of_moments xs ys more.moments)
-        (extends_then a.given b.given c.given (moments xs ++ []) (moments ys ++ more.moments) one.given two.given);
-  }
+  grew_then xs ys more a b c one two =
+      let both = adds_then a b c one two in
+      record {
+        traffic = extends_same a.traffic c.traffic ((traffic here xs ++ []) ++ (traffic here ys ++ sends here more.outcomes))
+            (traffic here (xs ++ ys) ++ sends here more.outcomes)
+            (of_acts (traffic_by here) xs ys (sends here more.outcomes)) both.traffic;
+        asked = extends_same a.asked c.asked (asked (carried xs none_begun) ++ asked (carried ys more)) (asked (carried (xs ++ ys) more))
+            (of_carried (λ (o : Outcome). asked_by o.output o.ok) xs ys more) both.asked;
+        prints = extends_same a.prints c.prints (prints (carried xs none_begun) ++ prints (carried ys more)) (prints (carried (xs ++ ys) more))
+            (of_carried (λ (o : Outcome). prints_by o.output o.ok) xs ys more) both.prints;
+        filings = extends_same a.filings c.filings (filings (carried xs none_begun) ++ filings (carried ys more)) (filings (carried (xs ++ ys) more))
+            (of_carried (λ (o : Outcome). filings_by o.output o.ok) xs ys more) both.filings;
+        given = extends_same a.given c.given ((moments xs ++ []) ++ (moments ys ++ more.moments)) (moments (xs ++ ys) ++ more.moments)
+            (of_moments xs ys more.moments) both.given;
+      }
 
   pub ran_none : (t : Turn) (a : Telling) → Ran here [] t t none_begun a a
-  ran_none t a = record { run = tt; leads = refl; grew = grew_none a }
+  ran_none t a = record { run = tt; leads = refl; grew = adds_none a }
 
   pub ran_then : (xs ys : List Act) (t u v : Turn) (more : Begun) (a b c : Telling) → Ran here xs t u none_begun a b → Ran here ys u v more b c
       → Ran here (xs ++ ys) t v more a c
@@ -121,40 +136,19 @@ ran_took here s e es m os was now same grew = record { run = (same, tt); leads =
 pub ran_cut : (here : Here) (t : Turn) (more : Begun) (was now : Telling) → Grew here [] more was now → Ran here [] t t more was now
 ran_cut here t more was now grew = record { run = tt; leads = refl; grew = grew }
 
--- the clock was read, and nothing else was asked
-pub clock_grew : (here : Here) (t : Option (List Traffic)) (a : Option (List Asked)) (p : Option (List Print)) (f : Option (List Filing))
-    (c0 c1 : Option (List ℕ)) (m : ℕ)
-    → Extends c0 c1 (m ∷ []) → Grew here [] (begun m []) (telling t a p f c0) (telling t a p f c1)
-clock_grew here t a p f c0 c1 m given = record {
-  traffic = extends_none t;
-  asked = extends_none a;
-  prints = extends_none p;
-  filings = extends_none f;
-  given = given;
-}
-
--- the clock was read, and these were carried out
-pub cut_grew : (here : Here) (m : ℕ) (os : List Outcome) (was now : Telling)
-    → Extends was.traffic now.traffic (sends here os) → Extends was.asked now.asked (asked os)
-    → Extends was.prints now.prints (prints os) → Extends was.filings now.filings (filings os) → Extends was.given now.given (m ∷ [])
-    → Grew here [] (begun m os) was now
-cut_grew here m os was now t a p f c = record { traffic = t; asked = a; prints = p; filings = f; given = c }
-
 -- the same of a list of outcomes, and of the act that has them
 alone : {A : Type 0} (f : Outcome → List A) (os : List Outcome) → flat_map f os ≡ flat_map f ((os ++ []) ++ [])
 alone f os = ap (flat_map f) (sym (append-nil os) ∙ sym (append-nil (os ++ [])))
 
-pub took_grew : (here : Here) (m : ℕ) (os : List Outcome) (was now : Telling)
-    → Extends was.traffic now.traffic (sends here os) → Extends was.asked now.asked (asked os)
-    → Extends was.prints now.prints (prints os) → Extends was.filings now.filings (filings os) → Extends was.given now.given (m ∷ [])
+pub took_grew : (here : Here) (m : ℕ) (os : List Outcome) (was now : Telling) → Adds was now (sends here os) (asked os) (prints os) (filings os) (m ∷ [])
     → Grew here (took m os ∷ []) none_begun was now
-took_grew here m os was now t a p f c = record {
+took_grew here m os was now adds = record {
   traffic = extends_same was.traffic now.traffic (sends here os) ((sends here os ++ []) ++ [])
-      (sym (append-nil (sends here os)) ∙ sym (append-nil (sends here os ++ []))) t;
-  asked = extends_same was.asked now.asked (asked os) (asked ((os ++ []) ++ [])) (alone (λ (o : Outcome). asked_by o.output o.ok) os) a;
-  prints = extends_same was.prints now.prints (prints os) (prints ((os ++ []) ++ [])) (alone (λ (o : Outcome). prints_by o.output o.ok) os) p;
-  filings = extends_same was.filings now.filings (filings os) (filings ((os ++ []) ++ [])) (alone (λ (o : Outcome). filings_by o.output o.ok) os) f;
-  given = c;
+      (sym (append-nil (sends here os)) ∙ sym (append-nil (sends here os ++ []))) adds.traffic;
+  asked = extends_same was.asked now.asked (asked os) (asked ((os ++ []) ++ [])) (alone (λ (o : Outcome). asked_by o.output o.ok) os) adds.asked;
+  prints = extends_same was.prints now.prints (prints os) (prints ((os ++ []) ++ [])) (alone (λ (o : Outcome). prints_by o.output o.ok) os) adds.prints;
+  filings = extends_same was.filings now.filings (filings os) (filings ((os ++ []) ++ [])) (alone (λ (o : Outcome). filings_by o.output o.ok) os) adds.filings;
+  given = adds.given;
 }
 
 -- the next event that came back was taken
@@ -186,26 +180,10 @@ cut_back here acts start u e x queue rest m os a b c split is ran grew =
     ran_then here acts [] start (turn u (e ∷ map event_back rest)) _ (begun m os) a b c first
     (ran_cut here (turn u (e ∷ map event_back rest)) (begun m os) b c grew)
 
--- a receive asks nothing else, nor does what is done at a quiet one
-pub tended_grew : (here : Here) (arrival : Arrival) (t0 t1 : Option (List Traffic)) (a0 a1 : Option (List Asked))
-    (p : Option (List Print)) (f : Option (List Filing)) (c : Option (List ℕ))
-    → Extends t0 t1 (inbound arrival ∷ []) → Extends a0 a1 []
-    → Grew here (received arrival ∷ []) none_begun (telling t0 a0 p f c) (telling t1 a1 p f c)
-tended_grew here arrival t0 t1 a0 a1 p f c came tended =
-    record { traffic = came; asked = tended; prints = extends_none p; filings = extends_none f; given = extends_none c }
-
--- a receive asks nothing else
-pub received_grew : (here : Here) (arrival : Arrival) (t0 t1 : Option (List Traffic)) (a : Option (List Asked))
-    (p : Option (List Print)) (f : Option (List Filing)) (c : Option (List ℕ))
-    → Extends t0 t1 (inbound arrival ∷ []) → Grew here (received arrival ∷ []) none_begun (telling t0 a p f c) (telling t1 a p f c)
-received_grew here arrival t0 t1 a p f c came = tended_grew here arrival t0 t1 a a p f c came (extends_none a)
-
--- a receive that failed
-pub missed_grew : (here : Here) (t0 t1 : Option (List Traffic)) (a : Option (List Asked)) (p : Option (List Print))
-    (f : Option (List Filing)) (c : Option (List ℕ))
-    → Extends t0 t1 [] → Grew here [] none_begun (telling t0 a p f c) (telling t1 a p f c)
-missed_grew here t0 t1 a p f c lost =
-    record { traffic = lost; asked = extends_none a; prints = extends_none p; filings = extends_none f; given = extends_none c }
+-- what is done at a quiet receive asks nothing
+pub tended_grew : (here : Here) (arrival : Arrival) (a b c : Telling) → Passes a b (inbound arrival ∷ []) → AddsNone b c
+    → Grew here (received arrival ∷ []) none_begun a c
+tended_grew here arrival a b c came tended = adds_then a b c came tended
 
 -- a receive, its event, and those that come back of it
 pub ran_turn : (here : Here) (arrival : Arrival) (m : ℕ) (os : List Outcome) (acts : List Act) (s : Plain) (e : Event) (old back : List Comeback) (v : Turn)
@@ -223,6 +201,25 @@ ran_turn here arrival m os acts s e old back v more t0 t1 t2 t3 some empty grown
     (ran_received here s arrival (Some e) t0 t1 some came)
     (ran_took here s e [] m os t1 t2 same took_it))
     third
+
+-- what the calls of a turn do
+pub turn_calls : (here : Here) (arrival : Arrival) (m : ℕ) (os : List Outcome) (acts : List Act) (s : Plain) (e : Event) (old back : List Comeback)
+    → Some e ≡ event_in here arrival → old ≡ [] → back ≡ old ++ brought_back os
+    → run_calls here (idle s) (received arrival ∷ took m os ∷ acts) ≡ calls m e s ++ run_calls here (turn (after_event m e s) (map event_back back)) acts
+turn_calls here arrival m os acts s e old back some empty grown =
+    let back_is : back ≡ brought_back os = grown ∙ ap (λ (l : List Comeback). l ++ brought_back os) empty in
+    ap (λ (o : Option Event). run_calls here (turn s (option_to_list o)) (took m os ∷ acts)) (sym some)
+    ∙ ap (λ (q : List Comeback). calls m e s ++ run_calls here (turn (after_event m e s) (map event_back q)) acts) (sym back_is)
+
+-- and of one event that came back
+pub back_calls : (here : Here) (acts : List Act) (start : Turn) (u : Plain) (e : Event) (x : Comeback) (queue rest : List Comeback) (m : ℕ) (os : List Outcome)
+    → queue ≡ x ∷ rest → e ≡ event_back x → after here start acts ≡ turn u (map event_back queue)
+    → run_calls here start (acts ++ took m os ∷ []) ≡ run_calls here start acts ++ calls m e u
+back_calls here acts start u e x queue rest m os split is leads =
+    calls_then here acts (took m os ∷ []) start (turn u (map event_back queue)) leads
+    ∙ ap (λ (q : List Comeback). run_calls here start acts ++ (next_calls m (map event_back q) u ++ [])) split
+    ∙ ap (λ (l : List (Stepped (List ℕ))). run_calls here start acts ++ l) (append-nil (calls m (event_back x) u))
+    ∙ ap (λ v. run_calls here start acts ++ calls m v u) (sym is)
 
 -- in a turn there is one receive
 pub turn_stops : (here : Here) (s : Plain) (arrival : Arrival) (m : ℕ) (os : List Outcome) (acts : List Act) → arrivals acts ≡ []

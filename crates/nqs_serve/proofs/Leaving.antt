@@ -1,15 +1,18 @@
 -- What calls leave of a node, one after the other, and what a call of the node leaves itself.
-use Rattle.std.proofs.Common.{◌≡◌, ◌∙◌, ℕ, false, List, length, map, IsErrOf, Ok, Err, refl, ap, arith}
+use Rattle.std.proofs.Common.{◌≡◌, ◌∙◌, ℕ, Bool, None, Some, false, List, length, map, IsErrOf, Ok, Err, refl, ap, arith}
 use Rattle.std.specs.Global.{Vec}
 use Rattle.std.specs.declared.result.Result.{Result}
 use Rattle.nqs_base.specs.Want.{want}
 use Rattle.nqs_state.specs.State.{Plain}
 use Rattle.nqs_types.specs.declared.event.Output.{Output}
 use Rattle.nqs_types.specs.declared.world.Which.{Which}
+use Rattle.nqs_outside.specs.History.{History}
 use Rattle.nqs_outside.specs.declared.disk.Disk as disk
 use Rattle.nqs_outside.proofs.Roses.{rose_since}
 use Rattle.nqs_rules.specs.Stepped.{Stepped, shown}
+use Rattle.nqs_store.specs.Active.{Active}
 use Rattle.nqs_store.specs.Sound.{IsSoundHost}
+use Rattle.nqs_node.specs.Carried.{Kept, IsMade}
 use Rattle.nqs_node.specs.Leaves as nodes
 use Rattle.nqs_node.specs.Nodes.{bare, content_of, is_stopped}
 use Rattle.nqs_node.specs.Reading.{AreShort}
@@ -18,71 +21,79 @@ use Rattle.nqs_store.specs.declared.fault.StoreFault.TheVariants as fault
 use Rattle.nqs_node.specs.declared.node.Node.{Node}
 use Rattle.nqs_base.proofs.Plain.{anyway}
 pub use Rattle.nqs_node.proofs.Places.{no_error}
+use Rattle.nqs_serve.specs.Keeping.{IsWhole}
 use Rattle.nqs_serve.specs.Leaves.{Cuts, Leaves, TakesStep}
 use Rattle.nqs_serve.specs.Sends.{AreRight}
 use Rattle.nqs_serve.specs.declared.cut.Cut.{Cut}
 use Rattle.nqs_serve.specs.declared.cut.Cut.TheVariants as cut
 use Rattle.nqs_serve.proofs.Sendable.{alike_right, alike_longer}
 
-same_fault : {T E : Type 0} (d e : E) → IsErrOf {T = T} (Err d) e → d ≡ e
+pub same_fault : {T E : Type 0} (d e : E) → IsErrOf {T = T} (Err d) e → d ≡ e
 same_fault d e is = cc
 
 -- nothing happened
-pub none_left : {D T E : Type 0} {g : disk.Ghosts D} (node : Node D g) (failed : E) (result : Result T E) → (IsErrOf result failed → ⊥)
+pub none_left : {D T E : Type 0} {g : disk.Ghosts D} (node : Node D g) (failed : Which → E) (result : Result T E)
+    → ((which : Which) → IsErrOf result (failed which) → ⊥)
     → IsSoundHost (content_of node) → is_stopped node ≡ false → Leaves node node failed result
 none_left node failed result none sound running = record {
   sound = sound;
   site = refl;
   running = anyway result running;
   later = λ which. omega arith;
-  broken = λ is. absurd (none is);
+  broken = λ which is. absurd (none which is);
 }
 
 -- one call after another that went well
-pub then_left : {D T U E : Type 0} {g : disk.Ghosts D} (a b c : Node D g) (failed : E) (x : T) (result : Result U E) → Leaves a b failed (Ok x)
+pub then_left : {D T U E : Type 0} {g : disk.Ghosts D} (a b c : Node D g) (failed : Which → E) (x : T) (result : Result U E) → Leaves a b failed (Ok x)
     → Leaves b c failed result → Leaves a c failed result
 then_left a b c failed x result one two = record {
   sound = two.sound;
   site = two.site ∙ one.site;
   running = two.running;
   later = λ which. omega (arith, one.later which, two.later which);
-  broken = λ is. let broke = two.broken is in (broke.0, (broke.1.0, rose_since _ _ _ (one.later broke.1.0) broke.1.1));
+  broken = λ which is. let broke = two.broken which is in (broke.0, rose_since _ _ _ (one.later which) broke.1);
 }
 
 -- it went well, and what is answered isn't that a call of a disk failed
-pub left_as : {D T U E F : Type 0} {g : disk.Ghosts D} (a b : Node D g) (failed : E) (lost : F) (x : T) (result : Result U F)
-    → (IsErrOf result lost → ⊥) → Leaves a b failed (Ok x) → Leaves a b lost result
+pub left_as : {D T U E F : Type 0} {g : disk.Ghosts D} (a b : Node D g) (failed : Which → E) (lost : Which → F) (x : T) (result : Result U F)
+    → ((which : Which) → IsErrOf result (lost which) → ⊥) → Leaves a b failed (Ok x) → Leaves a b lost result
 left_as a b failed lost x result none left = record {
   sound = left.sound;
   site = left.site;
   running = anyway result left.running;
   later = left.later;
-  broken = λ is. absurd (none is);
+  broken = λ which is. absurd (none which is);
 }
 
 -- it failed, and the error that is answered is that of a disk only where this one is
-pub left_by : {D T U E F : Type 0} {g : disk.Ghosts D} (a b : Node D g) (failed e : E) (lost k : F) → (k ≡ lost → e ≡ failed)
+pub left_by : {D T U E F : Type 0} {g : disk.Ghosts D} (a b : Node D g) (failed : Which → E) (e : E) (lost : Which → F) (k : F)
+    → ((which : Which) → k ≡ lost which → e ≡ failed which)
     → Leaves {T = T} a b failed (Err e) → Leaves {T = U} a b lost (Err k)
 left_by a b failed e lost k is_disk left = record {
   sound = left.sound;
   site = left.site;
   running = tt;
   later = left.later;
-  broken = λ is. left.broken (ap Err (is_disk (same_fault k lost is)));
+  broken = λ which is. left.broken which (ap Err (is_disk which (same_fault k (lost which) is)));
 }
 
 -- one call after another, of which both went well
-pub both_left : {D T U V E : Type 0} {g : disk.Ghosts D} (a b c : Node D g) (failed : E) (x : T) (y : U) (z : V) → Leaves a b failed (Ok x)
+pub both_left : {D T U V E : Type 0} {g : disk.Ghosts D} (a b c : Node D g) (failed : Which → E) (x : T) (y : U) (z : V) → Leaves a b failed (Ok x)
     → Leaves b c failed (Ok y) → Leaves a c failed (Ok z)
-both_left a b c failed x y z one two = left_as a c failed failed y (Ok z) (no_error z failed) (then_left a b c failed x (Ok y) one two)
+both_left a b c failed x y z one two = left_as a c failed failed y (Ok z) (λ which. no_error z (failed which)) (then_left a b c failed x (Ok y) one two)
 
-cut_disk : (e : StoreFault) (k : Cut) → Cuts e k → k ≡ cut.Disk → (which : Which) × (e ≡ fault.Disk which)
-cut_disk e cut.Disk cuts is = cuts
-cut_disk e (cut.Memory memory) cuts is = absurd (let no : ⊥ = cc in no)
+pub cut_disk : (e : StoreFault) (k : Cut) (which : Which) → Cuts e k → k ≡ cut.Disk which → e ≡ fault.Disk which
+cut_disk e (cut.Disk other) which cuts is = let same : other ≡ which = cc in cuts ∙ ap (λ (w : Which). fault.Disk w) same
+cut_disk e (cut.Memory memory) which cuts is = cc
 
 cut_memory : (e : StoreFault) (k : Cut) → Cuts e k → k ≡ cut.Memory want → e ≡ fault.Memory want
-cut_memory e cut.Disk cuts is = cc
+cut_memory e (cut.Disk which) cuts is = cc
 cut_memory e (cut.Memory memory) cuts is = cc
+
+-- the calls of a change that was made
+made_whole : (a : Active) (fails : Which → ℕ → Bool) (old now : Which → History) (kept : Kept) → IsMade a fails old now kept → IsWhole a old now kept
+made_whole a fails old now None made = made
+made_whole a fails old now (Some c) made = made.calls
 
 -- what a call of the node leaves that went well, or that a fault cut off
 
@@ -93,7 +104,7 @@ module _ {D T : Type 0} {g : disk.Ghosts D} (old now : Node D g) where
     site = left.site;
     running = left.stops.running;
     later = left.stops.later;
-    broken = λ is. absurd (no_error x cut.Disk is);
+    broken = λ which is. absurd (no_error x (cut.Disk which) is);
   }
 
   pub cut_left : (was says : Vec Output) (e : StoreFault) (k : Cut) → Cuts e k → nodes.Leaves {T = T} old now was says (Err e)
@@ -103,10 +114,7 @@ module _ {D T : Type 0} {g : disk.Ghosts D} (old now : Node D g) where
     site = left.site;
     running = tt;
     later = left.stops.later;
-    broken = λ is.
-        let which = cut_disk e k cuts (same_fault k cut.Disk is) in
-        let broken = left.stops.broken which.0 (ap Err which.1) in
-        (broken.0, (which.0, broken.1));
+    broken = λ which is. left.stops.broken which (ap Err (cut_disk e k which cuts (same_fault k (cut.Disk which) is)));
   }
 
   pub ok_taken : (was says : List Output) (step : Plain → Stepped (List ℕ)) (x : T) → AreRight 16 was → AreShort was
@@ -122,6 +130,9 @@ module _ {D T : Type 0} {g : disk.Ghosts D} (old now : Node D g) where
     unmade = tt;
     active = λ s knows. (takes.carries s knows.1).active;
     moments = λ s knows. (takes.carries s knows.1).any_moment knows.0 s knows.1;
+    whole = λ s knows. made_whole _ _ _ _ _ ((takes.carries s knows.1).made knows.0);
+    broken_off = λ s knows. tt;
+    still = λ s knows is. absurd (no_error x (cut.Memory want) is);
   }
 
   pub cut_taken : (was says : Vec Output) (step : Plain → Stepped (List ℕ)) (e : StoreFault) (k : Cut) → Cuts e k
@@ -137,4 +148,7 @@ module _ {D T : Type 0} {g : disk.Ghosts D} (old now : Node D g) where
     unmade = left.unmade;
     active = λ s knows. tt;
     moments = λ s knows. (takes.carries s knows.1).any_moment knows.0 s knows.1;
+    whole = λ s knows. tt;
+    broken_off = λ s knows. (takes.carries s knows.1).broken_off knows.0;
+    still = λ s knows is which. (left.memory knows.0 (ap Err (cut_memory e k cuts (same_fault k (cut.Memory want) is)))).same which;
   }

@@ -6,8 +6,11 @@ pub mod Acts
 pub mod Folds
 mod Emptied
 mod Sendable
-mod Ending
+pub mod Ending
 mod Known
+mod Tellings
+mod Keeping
+mod Passing
 mod Leaving
 pub mod Moments
 mod Sorting

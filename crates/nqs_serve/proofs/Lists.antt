@@ -15,8 +15,9 @@ use Rattle.nqs_outside.specs.Told.{Extends}
 use Rattle.nqs_outside.proofs.Told.{extends_then, extends_same}
 use Rattle.nqs_back.specs.Back.{brings_back, comebacks}
 use Rattle.nqs_serve.specs.Events.{Here}
-use Rattle.nqs_serve.specs.Letters.{letter_of, AreReady}
-use Rattle.nqs_serve.specs.Runs.{Outcome, packets, packets_by, sends, comeback_of}
+use Rattle.nqs_serve.specs.Letters.{letter_of, packets_in, AreReady}
+use Rattle.nqs_serve.specs.Runs.{Outcome, packets, packets_by, sends, comeback_of, asked_by, prints_by, filings_by, Carried}
+use Rattle.nqs_serve.specs.Tellings.{Telling, Adds}
 use Rattle.nqs_serve.specs.declared.letter.Letter.{Letter}
 
 -- one outcome more, in a list of what outcomes ask
@@ -24,19 +25,34 @@ pub one_more : {A : Type 0} (f : Outcome → List A) (os : List Outcome) (o : Ou
 one_more f os o = ap (λ l. flat_map f os ++ l) (sym (append-nil (f o))) ∙ sym (flat_map-append f os (o ∷ []))
 
 -- and in a told list
-pub told_more : {A : Type 0} (f : Outcome → List A) (os : List Outcome) (o : Outcome) (was mid now : Option (List A)) → Extends was mid (flat_map f os)
+told_more : {A : Type 0} (f : Outcome → List A) (os : List Outcome) (o : Outcome) (was mid now : Option (List A)) → Extends was mid (flat_map f os)
     → Extends mid now (f o) → Extends was now (flat_map f (os ++ o ∷ []))
 told_more f os o was mid now first second = extends_same was now (flat_map f os ++ f o) (flat_map f (os ++ o ∷ [])) (one_more f os o)
     (extends_then was mid now (flat_map f os) (f o) first second)
 
 -- the same of what is sent
-pub sent_more : (here : Here) (os : List Outcome) (o : Outcome) (was mid now : Option (List Traffic)) → Extends was mid (sends here os)
+sent_more : (here : Here) (os : List Outcome) (o : Outcome) (was mid now : Option (List Traffic)) → Extends was mid (sends here os)
     → Extends mid now (map outbound (packets_by here o.output)) → Extends was now (sends here (os ++ o ∷ []))
 sent_more here os o was mid now first second =
     extends_same was now (sends here os ++ map outbound (packets_by here o.output)) (sends here (os ++ o ∷ []))
     (sym (map-append outbound (packets here os) (packets_by here o.output))
     ∙ ap (map outbound) (one_more (λ (x : Outcome). packets_by here x.output) os o))
     (extends_then was mid now (sends here os) (map outbound (packets_by here o.output)) first second)
+
+-- one output more was carried out
+pub carried_more : (here : Here) (os : List Outcome) (o : Outcome) (letter : Option Letter) (was mid now : Telling) → letter ≡ letter_of here o.output
+    → Carried here os was mid
+    → Adds mid now (map outbound (packets_in letter)) (asked_by o.output o.ok) (prints_by o.output o.ok) (filings_by o.output o.ok) []
+    → Carried here (os ++ o ∷ []) was now
+carried_more here os o letter was mid now is one two = record {
+  traffic = sent_more here os o was.traffic mid.traffic now.traffic one.traffic
+      (extends_same mid.traffic now.traffic (map outbound (packets_in letter)) (map outbound (packets_by here o.output))
+      (ap (λ d. map outbound (packets_in d)) is) two.traffic);
+  asked = told_more (λ (x : Outcome). asked_by x.output x.ok) os o was.asked mid.asked now.asked one.asked two.asked;
+  prints = told_more (λ (x : Outcome). prints_by x.output x.ok) os o was.prints mid.prints now.prints one.prints two.prints;
+  filings = told_more (λ (x : Outcome). filings_by x.output x.ok) os o was.filings mid.filings now.filings one.filings two.filings;
+  given = extends_then was.given mid.given now.given [] [] one.given two.given;
+}
 
 pub comebacks_append : (xs ys : List Output) → comebacks (xs ++ ys) ≡ comebacks xs + comebacks ys
 comebacks_append xs ys = ap (λ (l : List Output). length l) (filter-append brings_back xs ys) ∙ length-append (filter brings_back xs) (filter brings_back ys)
@@ -88,11 +104,8 @@ ready_front here was went now letters grown ready =
     ready ∙ ap (map (letter_of here)) (sym (ap (λ n. take n now) count ∙ ap (take (length was)) grown ∙ take-append_seam was went))
 
 -- all of them have theirs, where a call that adds the others says so
-pub ready_all : {here there : Here} {now told : List Output} {letters all : List (Option Letter)} → told ≡ now → there ≡ here
-    → AreReady here (take (length letters) now) letters → (AreReady there (take (length letters) told) letters → AreReady there told all)
+pub ready_all : {here there : Here} (before now : List Output) {letters all : List (Option Letter)} → there ≡ here
+    → AreReady here (take (length letters) before) letters → (AreReady there (take (length letters) before) letters → AreReady there now all)
     → AreReady here now all
-ready_all {here} {there} {now} {told} {letters} {all} is_told is_here front adds =
-    subst (λ (h : Here). AreReady h now all) is_here
-    (subst (λ (l : List Output). AreReady there l all) is_told
-    (adds (subst (λ (l : List Output). AreReady there (take (length letters) l) letters) (sym is_told)
-    (subst (λ (h : Here). AreReady h (take (length letters) now) letters) (sym is_here) front))))
+ready_all {here} {there} before now {letters} {all} is_here front adds =
+    subst (λ (h : Here). AreReady h now all) is_here (adds (subst (λ (h : Here). AreReady h (take (length letters) before) letters) (sym is_here) front))

@@ -1,6 +1,6 @@
 -- Starts go on until there is none, whatever bytes are put for scripts.
 use Rattle.std.proofs.Common.{◌≡◌, ℕ, true, List, [], ◌∷◌, ◌++◌, Option, None, Some, is_some, refl, sym, ap, ◌∙◌}
-use Rattle.std.proofs.Common.{Bool, false, append_assoc}
+use Rattle.std.proofs.Common.{false, append_assoc}
 use Rattle.std.proofs.lemmas.List.{append-nil}
 use Rattle.std.proofs.lemmas.Grind.{flat_map-append}
 use Rattle.std.specs.List.{flat_map}
@@ -13,7 +13,7 @@ use Rattle.nqs_rules.specs.Starts.{after_step, starts, after_starts}
 use Rattle.nqs_rules.proofs.StartIs.{IsSteady}
 use Rattle.nqs_rules.proofs.Until.{none_starts, starts-steady}
 use Rattle.nqs_node.specs.Carried.{started}
-use Rattle.nqs_serve.specs.Steps.{said, after_next}
+use Rattle.nqs_serve.specs.Steps.{said}
 
 module _ (now : ℕ) where
   -- where none starts, there are no starts
@@ -67,12 +67,3 @@ none_started now s none = by (start now s) none
     by : (o : Option (Stepped (List ℕ))) → is_some o ≡ false → (elim o [ None ↦ quiet {E = List ℕ} | Some x ↦ x ]) ≡ quiet {E = List ℕ}
     by None e = refl
     by (Some x) e = absurd (let stop : ⊥ = cc in stop)
-
--- the state after the next start, or as it is
-pub next_started : (now : ℕ) (s : Plain) → IsSteady s → after_next (starts now s) s ≡ after_step (started now s) s
-next_started now s calm = by (is_some (start now s)) refl
-  where
-    by : (b : Bool) → is_some (start now s) ≡ b → after_next (starts now s) s ≡ after_step (started now s) s
-    by true some = ap (λ (l : List (Stepped (List ℕ))). after_next l s) (starts_next now s calm some)
-    by false none = ap (λ (l : List (Stepped (List ℕ))). after_next l s) (starts_none now s none)
-        ∙ ap (λ (x : Stepped (List ℕ)). after_step x s) (sym (none_started now s none))

@@ -10,12 +10,13 @@ use Rattle.nqs_outside.specs.declared.disk.Disk as disk
 use Rattle.nqs_rules.specs.Starts.{after_step}
 use Rattle.nqs_rules.specs.Stepped.{Stepped}
 use Rattle.nqs_store.specs.Sound.{IsSoundHost}
-use Rattle.nqs_node.specs.Carried.{after_kept, IsOneOrOther}
+use Rattle.nqs_node.specs.Carried.{after_kept, IsBrokenOff, IsOneOrOther}
 use Rattle.nqs_node.specs.Nodes as nodes
 use Rattle.nqs_node.specs.Reading.{AreShort}
 use Rattle.nqs_store.specs.declared.fault.StoreFault.{StoreFault}
 use Rattle.nqs_store.specs.declared.fault.StoreFault.TheVariants as fault
 use Rattle.nqs_node.specs.declared.node.Node.{Node}
+use Rattle.nqs_serve.specs.Keeping.{IsWhole}
 use Rattle.nqs_serve.specs.Nodes.{Knows}
 use Rattle.nqs_serve.specs.Sends.{AreRight}
 use Rattle.nqs_serve.specs.Steps.{said}
@@ -24,12 +25,12 @@ use Rattle.nqs_serve.specs.declared.cut.Cut.TheVariants as cut
 
 -- a fault of the node cuts an event off by this
 abbrev pub Cuts : StoreFault → Cut → Type 0
-Cuts fault cut.Disk = (which : Which) × (fault ≡ fault.Disk which)
+Cuts fault (cut.Disk which) = fault ≡ fault.Disk which
 Cuts fault (cut.Memory memory) = fault ≡ fault.Memory memory
 
 module _ {D T E : Type 0} {g : disk.Ghosts D} (old now : Node D g) where
   -- what a call leaves, whatever it was to do, where this error is that a call of a disk failed
-  pub record Leaves (disk_failed : E) (result : Result T E) : Type 0 where
+  pub record Leaves (disk_failed : Which → E) (result : Result T E) : Type 0 where
     -- the host is sound
     pub sound : IsSoundHost (nodes.content_of now)
     -- its site stays
@@ -38,9 +39,9 @@ module _ {D T E : Type 0} {g : disk.Ghosts D} (old now : Node D g) where
     pub running : OnOk result (nodes.is_stopped now ≡ false)
     -- no disk's count of faults falls
     pub later : (which : Which) → g.faults (nodes.disk_of which old) ≤ g.faults (nodes.disk_of which now)
-    -- a failed call of a disk stops it, and was counted by a disk
-    pub broken : IsErrOf result disk_failed → IsTrue (nodes.is_stopped now)
-        × ((which : Which) × Rose (g.faults (nodes.disk_of which old)) (g.faults (nodes.disk_of which now)))
+    -- a failed call of a disk stops it, and was counted by that disk
+    pub broken : (which : Which) → IsErrOf result (disk_failed which) → IsTrue (nodes.is_stopped now)
+        × Rose (g.faults (nodes.disk_of which old)) (g.faults (nodes.disk_of which now))
 
 module _ {D : Type 0} {g : disk.Ghosts D} {T : Type 0} (old now : Node D g) (was says : List Output) where
   -- a step was taken, behind what was said before; or a call failed
@@ -65,3 +66,10 @@ module _ {D : Type 0} {g : disk.Ghosts D} {T : Type 0} (old now : Node D g) (was
     -- the one after it
     pub moments : (s : Plain) → Knows old s
         → IsOneOrOther (nodes.active_of old) (nodes.history_of old) (nodes.history_of now) (step s).change s
+    -- at Ok just the calls of its change's commit were made
+    pub whole : (s : Plain) → Knows old s → OnOk result (IsWhole (nodes.active_of old) (nodes.history_of old) (nodes.history_of now) (step s).change)
+    -- at a fault a part of them
+    pub broken_off : (s : Plain) → Knows old s
+        → OnErr result (IsBrokenOff (nodes.active_of old) (nodes.history_of old) (nodes.history_of now) (step s).change)
+    -- and none for want of memory
+    pub still : (s : Plain) → Knows old s → IsErrOf result (cut.Memory want) → (which : Which) → nodes.history_of now which ≡ nodes.history_of old which

@@ -2,6 +2,8 @@ pub mod Events
 pub mod Letters
 pub mod Sends
 pub mod Steps
+pub mod Tellings
+pub mod Keeping
 pub mod Runs
 pub mod Ends
 pub mod Moments

@@ -10,11 +10,12 @@ use Rattle.nqs_types.specs.declared.event.Event.{Event}
 use Rattle.nqs_types.specs.declared.event.Event.TheVariants as event
 use Rattle.nqs_types.specs.declared.event.Output.{Output}
 use Rattle.nqs_types.specs.declared.event.Output.TheVariants as out
-use Rattle.nqs_outside.specs.Told.{Extends}
 use Rattle.nqs_outside.specs.Asked.{Arrival, Packet, Traffic, inbound, outbound, Asked, launched, killed, Print, printed, Filing, filed}
 use Rattle.nqs_serve.specs.Events.{Here, event_in}
 use Rattle.nqs_serve.specs.Letters.{letter_of, packets_in}
-use Rattle.nqs_serve.specs.Steps.{after_event, outputs}
+use Rattle.nqs_rules.specs.Stepped.{Stepped}
+use Rattle.nqs_serve.specs.Steps.{after_event, outputs, calls}
+use Rattle.nqs_serve.specs.Tellings.{Telling, Adds}
 use Rattle.nqs_serve.specs.declared.comeback.Comeback.{Comeback}
 use Rattle.nqs_serve.specs.declared.comeback.Comeback.TheVariants.{Unlaunched, Printed, Written, Unwritten}
 
@@ -151,6 +152,21 @@ module _ (here : Here) where
   IsRun t [] = Unit {0}
   IsRun t (act ∷ acts) = Allows t act × IsRun (next here t act) acts
 
+-- the calls that take the next event that waits
+abbrev pub next_calls : ℕ → List Event → Plain → List (Stepped (List ℕ))
+next_calls m [] s = []
+next_calls m (e ∷ es) s = calls m e s
+
+-- what the calls of an act do, in order: a receive makes none
+abbrev pub act_calls : Turn → Act → List (Stepped (List ℕ))
+act_calls t (received arrival) = []
+act_calls t (took m outcomes) = next_calls m t.waits t.state
+
+-- what the calls of acts do, in order
+abbrev pub run_calls : Here → Turn → List Act → List (Stepped (List ℕ))
+run_calls here t [] = []
+run_calls here t (act ∷ acts) = act_calls t act ++ run_calls here (next here t act) acts
+
 -- the parts of acts, in order
 
 -- what it received
@@ -189,18 +205,6 @@ outcomes acts = flat_map outcomes_of acts
 abbrev pub traffic : Here → List Act → List Traffic
 traffic here acts = flat_map (traffic_by here) acts
 
--- what the outside tells of what it was asked, where it tells it
-pub record Telling : Type 0 where
-  pub traffic : Option (List Traffic)
-  pub asked : Option (List Asked)
-  pub prints : Option (List Print)
-  pub filings : Option (List Filing)
-  pub given : Option (List ℕ)
-
--- what the wire, the launcher, the printer, the outlet and the clock tell
-abbrev pub telling : Option (List Traffic) → Option (List Asked) → Option (List Print) → Option (List Filing) → Option (List ℕ) → Telling
-telling t a p f c = record { traffic = t; asked = a; prints = p; filings = f; given = c }
-
 -- what was done of an event that was cut off: the moment at which it was to be taken, and what of
 -- it was carried out
 pub record Begun : Type 0 where
@@ -219,14 +223,16 @@ begun m outcomes = record { moments = m ∷ []; outcomes = outcomes }
 abbrev pub carried : List Act → Begun → List Outcome
 carried acts more = outcomes acts ++ more.outcomes
 
+-- just these were carried out
+abbrev pub Carried : Here → List Outcome → Telling → Telling → Type 0
+Carried here outcomes was now = Adds was now (sends here outcomes) (asked outcomes) (prints outcomes) (filings outcomes) []
+
 -- What the outside tells grew by just what these acts, and then an event that was cut off, ask of
 -- it; over the wire act by act, so what goes out of an event does before the next receive.
-pub record Grew (here : Here) (acts : List Act) (more : Begun) (was now : Telling) : Type 0 where
-  pub traffic : Extends was.traffic now.traffic (traffic here acts ++ sends here more.outcomes)
-  pub asked : Extends was.asked now.asked (asked (carried acts more))
-  pub prints : Extends was.prints now.prints (prints (carried acts more))
-  pub filings : Extends was.filings now.filings (filings (carried acts more))
-  pub given : Extends was.given now.given (moments acts ++ more.moments)
+abbrev pub Grew : Here → List Act → Begun → Telling → Telling → Type 0
+Grew here acts more was now =
+    Adds was now (traffic here acts ++ sends here more.outcomes) (asked (carried acts more)) (prints (carried acts more)) (filings (carried acts more))
+    (moments acts ++ more.moments)
 
 -- The acts lead from one turn to another. They, and what was done of an event that was cut off, are
 -- just what the outside saw.

@@ -1,5 +1,5 @@
 -- What an event and the starts after it do.
-use Rattle.std.specs.Prelude.{ℕ, List, [], ◌∷◌, ◌++◌, map}
+use Rattle.std.specs.Prelude.{ℕ, List, ◌∷◌, ◌++◌, map}
 use Rattle.std.specs.List.{flat_map}
 use Rattle.nqs_state.specs.State.{Plain}
 use Rattle.nqs_types.specs.declared.event.Event.{Event}
@@ -28,8 +28,3 @@ outputs m e s = said (step (at_moment m e) s) ++ flat_map said (starts m (steppe
 -- what the calls do that take the event, in order: its step, and the starts after it
 abbrev pub calls : ℕ → Event → Plain → List (Stepped (List ℕ))
 calls m e s = step (at_moment m e) s ∷ starts m (stepped m e s)
-
--- the state after the next of these, or as it is where there is none
-abbrev pub after_next : List (Stepped (List ℕ)) → Plain → Plain
-after_next [] s = s
-after_next (x ∷ xs) s = after_step x s

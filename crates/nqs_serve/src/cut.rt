@@ -1,11 +1,12 @@
 //! Why an event was cut off.
 
 use nqs_base::Memory;
+use nqs_types::Which;
 
 /// Why an event was cut off.
 #[derive(Debug, PartialEq, Eq, Drop)]
 pub(crate) enum Cut {
-    /// A call of a disk failed.
-    Disk,
+    /// A call of this disk failed.
+    Disk(Which),
     Memory(Memory),
 }

@@ -4,25 +4,26 @@ ghost use Rattle.std.specs.Prelude.{◌≡◌, ◌≢◌, ◌<◌, ◌∷◌, []
 ghost use Rattle.nqs_state.specs.State.{Plain};
 ghost use Rattle.nqs_types.specs.declared.world.Which.{Which};
 ghost use Rattle.nqs_outside.specs.Causes.{Rose};
-ghost use Rattle.nqs_outside.specs.Told.{Extends};
 ghost use Rattle.nqs_node.specs.Nodes.{active_of, content_of, disk_of, history_of, is_stopped, Tells};
 ghost use Rattle.nqs_records.specs.Values.{IsHost};
 ghost use Rattle.nqs_store.specs.Sound.{IsSoundHost};
 ghost use Rattle.nqs_serve.specs.Events.{Here};
-ghost use Rattle.nqs_serve.specs.Runs.{Act, Turn, idle, telling, Ran, Begun, none_begun};
+ghost use Rattle.nqs_serve.specs.Keeping.{Keeps};
+ghost use Rattle.nqs_serve.specs.Runs.{Act, Turn, idle, Ran, Begun, none_begun, run_calls};
 ghost use Rattle.nqs_serve.specs.Nodes.{Knows, here_of};
 ghost use Rattle.nqs_serve.specs.Leaves.{Leaves};
-ghost use Rattle.nqs_serve.specs.Ends.{Ends, stops, fault_of, end_of};
-ghost use Rattle.nqs_serve.specs.Moments.{TellsTo, TellsThroughout, IsPassed};
+ghost use Rattle.nqs_serve.specs.Ends.{Ends, stops, end_of, cuts_off};
+ghost use Rattle.nqs_serve.specs.Moments.{TellsThroughout, IsPassed};
+ghost use Rattle.nqs_serve.specs.Tellings.{telling, AddsNone};
 
-use crate::comeback::Comeback;
 use crate::cut::Cut;
+use crate::outside::{Lent, Outside};
 use crate::receive::{Missed, receive};
-use crate::take::{take_back, take_event};
+use crate::take::{Outbox, take_back, take_event};
 use nqs_base::Memory;
 use nqs_node::Node;
 use nqs_outside::{Clock, Disk, Launcher, Outlet, Printer, Wire};
-use nqs_types::{Event, HostId, Output};
+use nqs_types::{Event, HostId, Which};
 use std::alloc::Global;
 use std::collections::VecDeque;
 
@@ -35,48 +36,30 @@ pub enum ServeEnd {
     TurnsUsed,
     /// A receive failed.
     WireFault,
-    /// A call of a disk failed. The node is stopped: it is to be closed.
-    DiskFault,
+    /// A call of this disk failed. The node is stopped: it is to be closed.
+    DiskFault(Which),
     /// Memory ran out before the last event and its starts were kept and spelled.
     Memory(Memory),
 }
 
-/// Why a turn was cut off.
-#[derive(Debug, PartialEq, Eq, Drop)]
-pub(crate) enum Fault {
-    /// A call of the wire failed.
-    Wire,
-    /// A call of a disk failed.
-    Disk,
-    Memory(Memory),
-}
-
-fn fault_of(cut: Cut) -> Fault
-    ensures { result ≡ fault_of cut }
+fn end_of(cut: Cut) -> ServeEnd
+    ensures { result ≡ end_of cut }
 {
     match cut {
-        Cut::Disk => Fault::Disk,
-        Cut::Memory(memory) => Fault::Memory(memory),
-    }
-}
-
-fn end_of(fault: Fault) -> ServeEnd
-    ensures { result ≡ end_of fault }
-{
-    match fault {
-        Fault::Wire => ServeEnd::WireFault,
-        Fault::Disk => ServeEnd::DiskFault,
-        Fault::Memory(memory) => ServeEnd::Memory(memory),
+        Cut::Disk(which) => ServeEnd::DiskFault(which),
+        Cut::Memory(memory) => ServeEnd::Memory(memory),
     }
 }
 
 // At the tick of a quiet wire what a shortage kept back is tried once more.
-#[tactic(auto, using(nqs_outside::proofs::Told::extends_none))]
-fn tend_at<L: Launcher>(event: &Event, launcher: &mut L)
-    ensures { Extends (L.asked launcher.old) (L.asked launcher.new) [] }
+#[tactic(auto, using(crate::proofs::Tellings::adds_none))]
+fn tend_at<X: Outside>(event: &Event, outside: &mut X)
+    ensures asked { AddsNone (X.told outside.old) (X.told outside.new) }
+    ensures heard { X.receive_faults outside.new ≡ X.receive_faults outside.old }
+    ensures borrows { X.borrows outside.new ≡ X.borrows outside.old }
 {
     match event {
-        Event::Tick { .. } => launcher.tend(),
+        Event::Tick { .. } => outside.tend(),
         _ => {}
     }
 }
@@ -85,82 +68,63 @@ fn tend_at<L: Launcher>(event: &Event, launcher: &mut L)
 #[derive(Drop)]
 struct Room {
     buf: Vec<u8>,
-    out: Vec<Output>,
-    back: VecDeque<Comeback>,
+    outbox: Outbox,
 }
 
 // One turn: a receive, the event that it brought, and those that come back of it. True: the host is
 // to stop now.
-fn turn<D: Disk, W: Wire, L: Launcher, P: Printer, O: Outlet, C: Clock>(
-    alloc: Global,
+fn turn<D: Disk, X: Outside>(
     me: HostId,
     node: &mut Node<D>,
-    wire: &mut W,
-    launcher: &mut L,
-    printer: &mut P,
-    outlet: &mut O,
-    clock: &mut C,
+    outside: &mut X,
     room: &mut Room,
-) -> Result<bool, Fault>
+) -> Result<bool, ServeEnd>
     requires sound { IsSoundHost (content_of node.old) }
     requires running { is_stopped node.old ≡ false }
     requires host { IsHost me }
     requires room { 49_152 < length room.old.buf.items }
-    ensures leaves { Leaves node.old node.new Fault.Disk result }
+    ensures leaves { Leaves node.old node.new ServeEnd.DiskFault result }
     ensures ok { (s : Plain) (here : Here) → Knows node.old s → here ≡ record { me = me; site = (content_of node.old).site }
         → IfOk result (λ stop. (acts : List Act) × (u : Plain) × Knows node.new u × (stops here (idle s) acts ≡ stop ∷ [])
-        × Ran here acts (idle s) (idle u) none_begun
-        (telling (W.traffic wire.old) (L.asked launcher.old) (P.prints printer.old) (O.filings outlet.old) (C.given clock.old))
-        (telling (W.traffic wire.new) (L.asked launcher.new) (P.prints printer.new) (O.filings outlet.new) (C.given clock.new))
-        × TellsTo (active_of node.old) (active_of node.new) (history_of node.old) (history_of node.new) (IsPassed here (idle s) acts [])) }
+        × Ran here acts (idle s) (idle u) none_begun (X.told outside.old) (X.told outside.new)
+        × Keeps node.old node.new s (run_calls here (idle s) acts)) }
     ensures err { (s : Plain) (here : Here) → Knows node.old s → here ≡ record { me = me; site = (content_of node.old).site }
-        → IfErr result (λ fault. (acts : List Act) × (t : Turn) × (more : Begun)
-        × Ran here acts (idle s) t more
-        (telling (W.traffic wire.old) (L.asked launcher.old) (P.prints printer.old) (O.filings outlet.old) (C.given clock.old))
-        (telling (W.traffic wire.new) (L.asked launcher.new) (P.prints printer.new) (O.filings outlet.new) (C.given clock.new))
-        × Ends (end_of fault) 1 (stops here (idle s) acts) t more node.new
-        × TellsThroughout (active_of node.old) (history_of node.old) (history_of node.new) (IsPassed here (idle s) acts more.moments)) }
-    ensures wire_fault { IsErrOf result Fault.Wire → Rose (W.receive_faults wire.old) (W.receive_faults wire.new) }
-    ensures heard { (IsErrOf result Fault.Wire → ⊥) → W.receive_faults wire.new ≡ W.receive_faults wire.old }
+        → IfErr result (λ end. (acts : List Act) × (t : Turn) × (more : Begun)
+        × Ran here acts (idle s) t more (X.told outside.old) (X.told outside.new)
+        × Ends node.old s (run_calls here (idle s) acts) end 1 (stops here (idle s) acts) t more node.new) }
+    ensures early { IfErr result (λ end. IsTrue (cuts_off end)) }
+    ensures wire_fault { IsErrOf result ServeEnd.WireFault → Rose (X.receive_faults outside.old) (X.receive_faults outside.new) }
+    ensures heard { (IsErrOf result ServeEnd.WireFault → ⊥) → X.receive_faults outside.new ≡ X.receive_faults outside.old }
+    ensures borrows { X.borrows outside.new ≡ X.borrows outside.old }
     ensures room { length room.new.buf.items ≡ length room.old.buf.items }
 {
     let site = node.state().site.as_slice();
-    let mut event = match receive(alloc, me, site, wire, &mut room.buf) {
+    let mut event = match receive(room.outbox.alloc, me, site, outside, &mut room.buf) {
         Ok(Some(event)) => event,
         Ok(None) => return Ok(false),
-        Err(Missed::Wire) => return Err(Fault::Wire),
-        Err(Missed::Memory(memory)) => return Err(Fault::Memory(memory)),
+        Err(Missed::Wire) => return Err(ServeEnd::WireFault),
+        Err(Missed::Memory(memory)) => return Err(ServeEnd::Memory(memory)),
     };
-    tend_at(&event, launcher);
-    room.back.clear();
-    let out = &mut room.out;
-    let back = &mut room.back;
-    let taken = take_event(
-        alloc, me, node, wire, launcher, printer, outlet, clock, &mut event, out, back,
-    );
+    tend_at(&event, outside);
+    let outbox = &mut room.outbox;
+    outbox.back.clear();
+    let taken = take_event(me, node, outside, &mut event, outbox);
     drop(event);
     let halts = match taken {
-        Err(cut) => return Err(fault_of(cut)),
+        Err(cut) => return Err(end_of(cut)),
         Ok(halts) => halts,
     };
-    if let Err(cut) = take_back(
-        alloc, me, node, wire, launcher, printer, outlet, clock, out, back,
-    ) {
-        return Err(fault_of(cut));
+    if let Err(cut) = take_back(me, node, outside, outbox) {
+        return Err(end_of(cut));
     }
     Ok(halts)
 }
 
 // Turns until one stops, or there is none left.
-fn turns_in<D: Disk, W: Wire, L: Launcher, P: Printer, O: Outlet, C: Clock>(
-    alloc: Global,
+fn turns_in<D: Disk, X: Outside>(
     me: HostId,
     node: &mut Node<D>,
-    wire: &mut W,
-    launcher: &mut L,
-    printer: &mut P,
-    outlet: &mut O,
-    clock: &mut C,
+    outside: &mut X,
     room: &mut Room,
     turns: u64,
 ) -> ServeEnd
@@ -172,28 +136,58 @@ fn turns_in<D: Disk, W: Wire, L: Launcher, P: Printer, O: Outlet, C: Clock>(
     ensures site { (content_of node.new).site ≡ (content_of node.old).site }
     ensures run { (s : Plain) (here : Here) → Knows node.old s → here ≡ record { me = me; site = (content_of node.old).site }
         → (acts : List Act) × (t : Turn) × (more : Begun)
-        × Ran here acts (idle s) t more
-        (telling (W.traffic wire.old) (L.asked launcher.old) (P.prints printer.old) (O.filings outlet.old) (C.given clock.old))
-        (telling (W.traffic wire.new) (L.asked launcher.new) (P.prints printer.new) (O.filings outlet.new) (C.given clock.new))
-        × Ends result turns (stops here (idle s) acts) t more node.new
-        × TellsThroughout (active_of node.old) (history_of node.old) (history_of node.new) (IsPassed here (idle s) acts more.moments) }
-    ensures wire_fault { result ≡ ServeEnd.WireFault → Rose (W.receive_faults wire.old) (W.receive_faults wire.new) }
-    ensures heard { result ≢ ServeEnd.WireFault → W.receive_faults wire.new ≡ W.receive_faults wire.old }
-    ensures disk_fault { result ≡ ServeEnd.DiskFault → IsTrue (is_stopped node.new)
-        × ((which : Which) × Rose (D.faults (disk_of which node.old)) (D.faults (disk_of which node.new))) }
+        × Ran here acts (idle s) t more (X.told outside.old) (X.told outside.new)
+        × Ends node.old s (run_calls here (idle s) acts) result turns (stops here (idle s) acts) t more node.new }
+    ensures wire_fault { result ≡ ServeEnd.WireFault → Rose (X.receive_faults outside.old) (X.receive_faults outside.new) }
+    ensures heard { result ≢ ServeEnd.WireFault → X.receive_faults outside.new ≡ X.receive_faults outside.old }
+    ensures disk_fault { (which : Which) → result ≡ ServeEnd.DiskFault which → IsTrue (is_stopped node.new)
+        × Rose (D.faults (disk_of which node.old)) (D.faults (disk_of which node.new)) }
+    ensures borrows { X.borrows outside.new ≡ X.borrows outside.old }
 {
     let mut left = turns;
     while left > 0 {
-        match turn(
-            alloc, me, node, wire, launcher, printer, outlet, clock, room,
-        ) {
+        match turn(me, node, outside, room) {
             Ok(true) => return ServeEnd::Shutdown,
             Ok(false) => {}
-            Err(fault) => return end_of(fault),
+            Err(end) => return end,
         }
         left -= 1;
     }
     ServeEnd::TurnsUsed
+}
+
+// The same with the parts that are lent.
+fn serve_lent<D: Disk, W: Wire, L: Launcher, P: Printer, O: Outlet, C: Clock>(
+    me: HostId,
+    node: &mut Node<D>,
+    lent: &mut Lent<'_, '_, '_, '_, '_, W, L, P, O, C>,
+    room: &mut Room,
+    turns: u64,
+) -> ServeEnd
+    requires sound { IsSoundHost (content_of node.old) }
+    requires running { is_stopped node.old ≡ false }
+    requires host { IsHost me }
+    requires room { 49_152 < length room.old.buf.items }
+    ensures sound { IsSoundHost (content_of node.new) }
+    ensures site { (content_of node.new).site ≡ (content_of node.old).site }
+    ensures run { (s : Plain) (here : Here) → Knows node.old s → here ≡ record { me = me; site = (content_of node.old).site }
+        → (acts : List Act) × (t : Turn) × (more : Begun) × Ran here acts (idle s) t more
+        (telling (W.traffic lent.old.wire.now) (L.asked lent.old.launcher.now) (P.prints lent.old.printer.now)
+        (O.filings lent.old.outlet.now) (C.given lent.old.clock.now))
+        (telling (W.traffic lent.new.wire.now) (L.asked lent.new.launcher.now) (P.prints lent.new.printer.now)
+        (O.filings lent.new.outlet.now) (C.given lent.new.clock.now))
+        × Ends node.old s (run_calls here (idle s) acts) result turns (stops here (idle s) acts) t more node.new }
+    ensures wire_fault { result ≡ ServeEnd.WireFault → Rose (W.receive_faults lent.old.wire.now) (W.receive_faults lent.new.wire.now) }
+    ensures heard { result ≢ ServeEnd.WireFault → W.receive_faults lent.new.wire.now ≡ W.receive_faults lent.old.wire.now }
+    ensures disk_fault { (which : Which) → result ≡ ServeEnd.DiskFault which → IsTrue (is_stopped node.new)
+        × Rose (D.faults (disk_of which node.old)) (D.faults (disk_of which node.new)) }
+    ensures same_wire { lent.new.wire.ghost_name ≡ lent.old.wire.ghost_name }
+    ensures same_launcher { lent.new.launcher.ghost_name ≡ lent.old.launcher.ghost_name }
+    ensures same_printer { lent.new.printer.ghost_name ≡ lent.old.printer.ghost_name }
+    ensures same_outlet { lent.new.outlet.ghost_name ≡ lent.old.outlet.ghost_name }
+    ensures same_clock { lent.new.clock.ghost_name ≡ lent.old.clock.ghost_name }
+{
+    turns_in(me, node, lent, room, turns)
 }
 
 /// The longest datagram, and one byte more: what fills the room was cut.
@@ -205,10 +199,12 @@ const ROOM: usize = 49_153;
 ///
 /// The node's state is that after the run over what was received, and what the outside was asked
 /// for is just what goes out of that run, in order: the datagrams of an event are sent before the
-/// next receive. Whatever a stop leaves of the node's disks at any moment tells a state that the
-/// run passes. A receive that failed ends the run. After `DiskFault` the node is stopped, what went
-/// out of the last event is just what the calls before the failed one say, and the disks tell the
-/// state after these or after that one. After `Memory` nothing of the last event went out.
+/// next receive. What the node's disks keep are just the changes of that run, in order: an event
+/// without a change writes nothing and syncs nothing. Whatever a stop leaves of the disks at any
+/// moment tells a state that the run passes. A receive that failed ends the run. After `DiskFault`
+/// the node is stopped, what went out of the last event is just what the calls before the failed
+/// one say, and the disks tell the state after these or after that one. After `Memory` nothing of
+/// the last event went out.
 pub fn serve<D: Disk, W: Wire, L: Launcher, P: Printer, O: Outlet, C: Clock>(
     alloc: Global,
     node: &mut Node<D>,
@@ -227,24 +223,31 @@ pub fn serve<D: Disk, W: Wire, L: Launcher, P: Printer, O: Outlet, C: Clock>(
         × Ran (here_of node.old) acts (idle s) t more
         (telling (W.traffic wire.old) (L.asked launcher.old) (P.prints printer.old) (O.filings outlet.old) (C.given clock.old))
         (telling (W.traffic wire.new) (L.asked launcher.new) (P.prints printer.new) (O.filings outlet.new) (C.given clock.new))
-        × Ends result turns (stops (here_of node.old) (idle s) acts) t more node.new
+        × Ends node.old s (run_calls (here_of node.old) (idle s) acts) result turns (stops (here_of node.old) (idle s) acts) t more node.new
         × TellsThroughout (active_of node.old) (history_of node.old) (history_of node.new) (IsPassed (here_of node.old) (idle s) acts more.moments) }
     ensures wire_fault { result ≡ ServeEnd.WireFault → Rose (W.receive_faults wire.old) (W.receive_faults wire.new) }
     ensures heard { result ≢ ServeEnd.WireFault → W.receive_faults wire.new ≡ W.receive_faults wire.old }
-    ensures disk_fault { result ≡ ServeEnd.DiskFault → IsTrue (is_stopped node.new)
-        × ((which : Which) × Rose (D.faults (disk_of which node.old)) (D.faults (disk_of which node.new))) }
+    ensures disk_fault { (which : Which) → result ≡ ServeEnd.DiskFault which → IsTrue (is_stopped node.new)
+        × Rose (D.faults (disk_of which node.old)) (D.faults (disk_of which node.new)) }
 {
     let buf = match vec![in alloc; 0u8; ROOM] {
         Ok(buf) => buf,
         Err(refused) => return ServeEnd::Memory(refused.into()),
     };
-    let mut room = Room {
-        buf,
+    let outbox = Outbox {
+        alloc,
         out: Vec::new(alloc),
+        letters: Vec::new(alloc),
         back: VecDeque::new(alloc),
     };
+    let mut room = Room { buf, outbox };
+    let mut lent = Lent {
+        wire,
+        launcher,
+        printer,
+        outlet,
+        clock,
+    };
     let me = node.state().me;
-    turns_in(
-        alloc, me, node, wire, launcher, printer, outlet, clock, &mut room, turns,
-    )
+    serve_lent(me, node, &mut lent, &mut room, turns)
 }

@@ -63,9 +63,10 @@ fn asked(port: u16, token: u64, user: Name, command: Command) -> Event
 }
 
 // What a shepherd tells of the end of a job, with the moment 0.
-fn ended(port: u16, id: RequestId, start: u16, status: u8, out: Bytes, err: Bytes) -> Event
-    ensures { result ≡ Event.Ended 0 port id start status out err }
+fn ended(port: u16, job: (RequestId, u16), status: u8, out: Bytes, err: Bytes) -> Event
+    ensures { result ≡ Event.Ended 0 port job.0 job.1 status out err }
 {
+    let (id, start) = job;
     Event::Ended {
         now: 0,
         port,
@@ -102,7 +103,7 @@ pub(crate) fn event_of(alloc: Global, message: Message) -> Result<Option<Event>,
             status,
             out,
             err,
-        } => Ok(Some(ended(port, id, start, status, out, err))),
+        } => Ok(Some(ended(port, (id, start), status, out, err))),
         Body::Answer { .. } => Ok(None),
         Body::EndedAck { .. } => Ok(None),
         body => Ok(Some(Event::Arrived {

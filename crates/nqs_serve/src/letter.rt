@@ -72,18 +72,18 @@ fn text_of(alloc: Global, site: &[Name], reply: &Reply) -> Result<Bytes, Memory>
     Ok(Bytes::from_vec(text))
 }
 
-// The answer to a client.
+// The answer to a client, who is at this port and waits for this token.
 fn answer(
     alloc: Global,
     me: HostId,
     site: &[Name],
-    port: u16,
-    token: u64,
+    asker: (u16, u64),
     reply: &Reply,
 ) -> Result<Option<Letter>, Memory>
     requires { IsHost me }
-    ensures { IfOk result (λ l. l ≡ letter_of (record { me = me; site = site.now }) (out.Reply port token reply.now)) }
+    ensures { IfOk result (λ l. l ≡ letter_of (record { me = me; site = site.now }) (out.Reply asker.0 asker.1 reply.now)) }
 {
+    let (port, token) = asker;
     let text = text_of(alloc, site, reply)?;
     let body = Body::Answer {
         token,
@@ -131,7 +131,7 @@ fn letter_of(
     ensures { IfOk result (λ l. l ≡ letter_of (record { me = me; site = site.now }) output.now) }
 {
     match output {
-        Output::Reply { port, token, reply } => answer(alloc, me, site, *port, *token, reply),
+        Output::Reply { port, token, reply } => answer(alloc, me, site, (*port, *token), reply),
         Output::Send(message) => word(alloc, message),
         Output::Ack { port, id, start } => acknowledgement(alloc, me, *port, *id, *start),
         Output::Launch { .. } => Ok(None),

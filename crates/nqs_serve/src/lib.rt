@@ -15,6 +15,7 @@ mod event;
 pub mod laws;
 mod letter;
 mod notes;
+mod outside;
 mod receive;
 mod said;
 mod sort;

@@ -1,17 +1,18 @@
 //! A receive, and the event that it brought.
 
-ghost use Rattle.std.specs.Prelude.{◌≡◌, ◌<◌, ◌≤◌, ◌∷◌, [], IfOk, IsErrOf, IfSome, IsTrue, length};
+ghost use Rattle.std.specs.Prelude.{◌≡◌, ◌<◌, ◌∷◌, [], IfOk, IsErrOf, IfSome, IsTrue, length};
 ghost use Rattle.nqs_base.specs.Want.{want};
 ghost use Rattle.nqs_outside.specs.Causes.{Rose};
-ghost use Rattle.nqs_outside.specs.Told.{Extends};
 ghost use Rattle.nqs_outside.specs.Asked.{Arrival, came, inbound};
 ghost use Rattle.nqs_rules.specs.Sane.{is_sane_event};
 ghost use Rattle.nqs_serve.specs.Events.{Here, event_in};
 ghost use Rattle.nqs_serve.specs.Sends.{is_right_event};
+ghost use Rattle.nqs_serve.specs.Tellings.{AddsNone, Passes};
 
+use crate::outside::Outside;
 use crate::sort::{Sorted, sort_datagram};
 use nqs_base::{Memory, Name};
-use nqs_outside::{Received, Wire};
+use nqs_outside::Received;
 use nqs_types::{Event, HostId};
 use std::alloc::Global;
 
@@ -38,26 +39,26 @@ fn event_in(alloc: Global, me: HostId, site: &[Name], bytes: &[u8]) -> Result<Op
 
 /// The event that a receive brought, if it brought one. The buffer has room for one byte more than
 /// the longest datagram.
-pub(crate) fn receive<W: Wire>(
+pub(crate) fn receive<X: Outside>(
     alloc: Global,
     me: HostId,
     site: &[Name],
-    wire: &mut W,
+    outside: &mut X,
     buf: &mut [u8],
 ) -> Result<Option<Event>, Missed>
     requires room { 49_152 < length buf.old }
     ensures came { IfOk result (λ event. (arrival : Arrival) × (event ≡ event_in (record { me = me; site = site.now }) arrival)
-        × Extends (W.traffic wire.old) (W.traffic wire.new) (inbound arrival ∷ [])) }
+        × Passes (X.told outside.old) (X.told outside.new) (inbound arrival ∷ [])) }
     ensures sane { IfOk result (λ event. IfSome event (λ e. IsTrue (is_sane_event (length site.now) e))) }
     ensures right { IfOk result (λ event. IfSome event (λ e. IsTrue (is_right_event (length site.now) e))) }
-    ensures cut { IsErrOf result (Missed.Memory want) → (arrival : Arrival) × Extends (W.traffic wire.old) (W.traffic wire.new) (inbound arrival ∷ []) }
-    ensures lost { IsErrOf result Missed.Wire → Extends (W.traffic wire.old) (W.traffic wire.new) []
-        × Rose (W.receive_faults wire.old) (W.receive_faults wire.new) }
-    ensures heard { (IsErrOf result Missed.Wire → ⊥) → W.receive_faults wire.new ≡ W.receive_faults wire.old }
-    ensures later { W.receive_faults wire.old ≤ W.receive_faults wire.new }
+    ensures cut { IsErrOf result (Missed.Memory want) → (arrival : Arrival) × Passes (X.told outside.old) (X.told outside.new) (inbound arrival ∷ []) }
+    ensures lost { IsErrOf result Missed.Wire → AddsNone (X.told outside.old) (X.told outside.new)
+        × Rose (X.receive_faults outside.old) (X.receive_faults outside.new) }
+    ensures heard { (IsErrOf result Missed.Wire → ⊥) → X.receive_faults outside.new ≡ X.receive_faults outside.old }
+    ensures borrows { X.borrows outside.new ≡ X.borrows outside.old }
     ensures same_length { length buf.new ≡ length buf.old }
 {
-    let Ok(received) = wire.receive(buf) else {
+    let Ok(received) = outside.receive(buf) else {
         return Err(Missed::Wire);
     };
     match received {

@@ -28,13 +28,14 @@ fn put_title(alloc: Global, day: &Day, out: &mut Vec<u8>) -> Result<(), Trouble>
     put_text(text, out)
 }
 
-fn words_of(end: ServeEnd) -> &'static str {
+fn words_of(end: Option<ServeEnd>) -> &'static str {
     match end {
-        ServeEnd::Shutdown => "shut down",
-        ServeEnd::TurnsUsed => "turns used",
-        ServeEnd::WireFault => "wire fault",
-        ServeEnd::DiskFault => "disk fault",
-        ServeEnd::Memory(_) => "memory",
+        Some(ServeEnd::Shutdown) => "shut down",
+        Some(ServeEnd::TurnsUsed) => "turns used",
+        Some(ServeEnd::WireFault) => "wire fault",
+        Some(ServeEnd::DiskFault(_)) => "disk fault",
+        Some(ServeEnd::Memory(_)) => "memory",
+        None => "disk fault",
     }
 }
 

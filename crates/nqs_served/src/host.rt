@@ -150,12 +150,17 @@ impl Host {
         self.node.is_stopped()
     }
 
-    /// Serves the outside for so many turns.
-    pub(crate) fn serve(&mut self, alloc: Global, outside: &mut Outside, turns: u64) -> ServeEnd {
+    /// Serves the outside for so many turns, unless a disk failed before.
+    pub(crate) fn serve(
+        &mut self,
+        alloc: Global,
+        outside: &mut Outside,
+        turns: u64,
+    ) -> Option<ServeEnd> {
         if self.node.is_stopped() {
-            return ServeEnd::DiskFault;
+            return None;
         }
-        serve_node(alloc, &mut self.node, outside, turns)
+        Some(serve_node(alloc, &mut self.node, outside, turns))
     }
 
     // The state that its disks tell.

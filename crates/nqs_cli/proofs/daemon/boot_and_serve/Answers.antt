@@ -1,5 +1,6 @@
-use Rattle.std.proofs.Common.{ap, refl, sym, subst, arith}
+use Rattle.std.proofs.Common.{◌≡◌, ◌++◌, ap, refl, sym, subst, arith}
 use Rattle.nqs_types.specs.declared.change.Change.TheVariants.{Boot}
+use Rattle.nqs_types.specs.declared.world.Which.{Which}
 use Rattle.nqs_rules.specs.Applied.{applied}
 use Rattle.nqs_outside.specs.Causes.{Rose}
 use Rattle.nqs_store.specs.Disks.{disk_at, histories_of}
@@ -9,9 +10,10 @@ use Rattle.nqs_serve.specs.Ends.{EndsWith, stops}
 use Rattle.nqs_serve.specs.Events.{Here}
 use Rattle.nqs_serve.specs.Moments.{TellsThroughout, IsPassed}
 use Rattle.nqs_serve.specs.Nodes.{IsAt}
-use Rattle.nqs_serve.specs.Runs.{idle, Ran}
-use Rattle.nqs_cli.specs.Daemons.{Outside, told_of, telling_of, here_of, Leaves}
-use Rattle.nqs_cli.proofs.Serving.{leaves, ends_as, since_boot, not_booted, has_served}
+use Rattle.nqs_serve.specs.Keeping.{KeptBehind}
+use Rattle.nqs_serve.specs.Runs.{idle, Ran, run_calls}
+use Rattle.nqs_cli.specs.Daemons.{Outside, told_of, telling_of, here_of, Leaves, KeptSince}
+use Rattle.nqs_cli.proofs.Serving.{leaves, kept_since, ends_as, since_boot, not_booted, has_served}
 use Rattle.nqs_cli.proofs.daemon.boot_and_serve.Goals as goal
 
 pub boot_loaded-requires : goal.boot_loaded-requires
@@ -53,13 +55,17 @@ returns g c = λ me names disks loaded here.
     let u = applied Boot s in
     let run = c.serve-end.ensures.run yes u told in
     let place = ap here_of told.is in
+    let node = c.in-Ok.node in
+    let new = c.serve-end.new.node in
+    let same : (which : Which) → histories_of g.D.Disk.history c.close.result which ≡ history_of new which =
+    λ which. ap g.D.Disk.history (c.close.ensures which) in
     let moved = subst (λ (h : Here). Ran h run.0 (idle u) run.1 run.2 (telling_of was) (telling_of now)
-    × EndsWith (Tells c.serve-end.new.node) (IsAt c.serve-end.new.node) (history_of c.serve-end.new.node) c.serve-end.result c.args.turns
+    × EndsWith (Tells new) (IsAt new) (KeptBehind node new u (run_calls h (idle u) run.0)) (history_of new) c.serve-end.result c.args.turns
     (stops h (idle u) run.0) run.1 run.2)
     place (run.3, run.4) in
-    let passes = subst (λ (h : Here). TellsThroughout (active_of c.in-Ok.node) (history_of c.in-Ok.node) (history_of c.serve-end.new.node)
-    (IsPassed h (idle u) run.0 run.2.moments))
-    place run.5 in (
+    let passes = subst (λ (h : Here). TellsThroughout (active_of node) (history_of node) (history_of new) (IsPassed h (idle u) run.0 run.2.moments))
+    place run.5 in
+    let calls = run_calls (here_of s) (idle u) run.0 in (
       s,
       there,
       ours.2,
@@ -67,25 +73,24 @@ returns g c = λ me names disks loaded here.
         run.0,
         run.1,
         run.2,
+        named.0,
+        named.1,
         moved.0,
-        ends_as (Tells c.serve-end.new.node) (Leaves now.disks) (IsAt c.serve-end.new.node) (history_of c.serve-end.new.node)
+        ends_as (Tells new) (Leaves now.disks) (IsAt new) (KeptBehind node new u calls) (KeptSince named.0 was.disks now.disks s calls) (history_of new)
             (histories_of g.D.Disk.history c.close.result)
-            (λ t told. leaves c.serve-end.new.node t (histories_of g.D.Disk.history c.close.result) yes told
-            (λ which. ap g.D.Disk.history (c.close.ensures which)))
-            (λ which. ap g.D.Disk.history (c.close.ensures which))
+            (λ t told. leaves new t (histories_of g.D.Disk.history c.close.result) yes told same)
+            (λ done failed kept. kept_since named.0 (active_of node) _ (history_of node) (history_of new) (histories_of g.D.Disk.history c.close.result) s
+            (calls ++ done) failed same (booted.active yes named.0 named.1) (booted.made yes named.0 named.1).calls
+            (booted.any_moment yes s there named.0 named.1) kept)
+            same
             c.serve-end.result c.args.turns (stops (here_of s) (idle u) run.0) run.1 run.2 moved.1,
-        (
-          named.0,
-          named.1,
-          since_boot named.0 (active_of c.in-Ok.node) _ (history_of c.in-Ok.node) (history_of c.serve-end.new.node)
-              (histories_of g.D.Disk.history c.close.result) s run.0 run.2.moments (λ which. ap g.D.Disk.history (c.close.ensures which))
-              (booted.active yes named.0 named.1) (booted.any_moment yes s there named.0 named.1) passes,
-        ),
+        since_boot named.0 (active_of node) _ (history_of node) (history_of new) (histories_of g.D.Disk.history c.close.result) s run.0 run.2.moments same
+            (booted.active yes named.0 named.1) (booted.any_moment yes s there named.0 named.1) passes,
       ),
     ))
     c.serve-end.ensures.wire_fault
-    (λ is. let rose = (c.serve-end.ensures.disk_fault is).1 in (
-      rose.0,
-      subst (λ d. Rose (g.D.Disk.faults (disk_at rose.0 disks)) (g.D.Disk.faults d)) (sym (c.close.ensures rose.0))
-          (omega (arith, booted.later rose.0, rose.1)),
+    (λ which is. (
+      which,
+      subst (λ d. Rose (g.D.Disk.faults (disk_at which disks)) (g.D.Disk.faults d)) (sym (c.close.ensures which))
+          (omega (arith, booted.later which, (c.serve-end.ensures.disk_fault which is).1)),
     ))

@@ -1,22 +1,22 @@
-use Rattle.std.proofs.Common.{◌≡◌, ◌+◌, refl, ap, sym, ◌∙◌, ◌++◌, [], ◌∷◌, List, map, take, arith, append_assoc}
+use Rattle.std.proofs.Common.{◌≡◌, ◌+◌, refl, ap, sym, ◌∙◌, ◌++◌, [], ◌∷◌, List, take, arith, append_assoc}
 use Rattle.std.specs.Option.{option_to_list}
 use Rattle.std.proofs.lemmas.List.{append-nil, map-append}
-use Rattle.nqs_outside.specs.Asked.{outbound}
-use Rattle.nqs_outside.proofs.Told.{extends_none, extends_same}
 use Rattle.nqs_types.specs.declared.event.Output.{Output}
 use Rattle.nqs_back.specs.Back.{comebacks}
-use Rattle.nqs_serve.specs.Letters.{letter_of, packets_in}
-use Rattle.nqs_serve.specs.Runs.{Outcome, outcome, asked_by, prints_by, filings_by, comeback_of, brought_back}
+use Rattle.nqs_serve.specs.Letters.{letter_of}
+use Rattle.nqs_serve.specs.Runs.{Outcome, outcome, comeback_of, brought_back}
 use Rattle.nqs_serve.specs.declared.comeback.Comeback.{Comeback}
-use Rattle.nqs_serve.proofs.Lists.{one_more, told_more, sent_more, comebacks_append, one_at_most, at_mapped, taken_more, taken_all}
+use Rattle.nqs_serve.proofs.Lists.{one_more, carried_more, comebacks_append, one_at_most, at_mapped, taken_more, taken_all}
+use Rattle.nqs_serve.proofs.Tellings.{adds_none}
 use Rattle.nqs_serve.proofs.carry.carry.Goals as goal
 
 pub loop-place-init : goal.loop-place-init
 loop-place-init g c = record {
-  carried = λ here same. ([], refl, sym (append-nil c.args.back.now.items), extends_none _, extends_none _, extends_none _, extends_none _);
+  carried = λ here same. ([], refl, sym (append-nil c.args.back.now.items), adds_none _);
   few = omega arith;
   room = omega (arith, c.requires.room);
   heard = refl;
+  borrows = refl;
 }
 
 pub carry_one-requires : goal.carry_one-requires
@@ -39,14 +39,12 @@ loop-place-preserved g c =
             did.noted ∙ ap (λ (l : List Comeback). l ++ option_to_list (comeback_of o c.carry_one.result)) before.2
                 ∙ append_assoc c.args.back.now.items (brought_back before.0) (option_to_list (comeback_of o c.carry_one.result))
                 ∙ ap (λ (l : List Comeback). c.args.back.now.items ++ l) (one_more (λ (x : Outcome). option_to_list (comeback_of x.output x.ok)) before.0 this),
-            sent_more here before.0 this _ _ _ before.3 (extends_same _ _ _ _ (ap (λ d. map outbound (packets_in d)) sends) did.traffic),
-            told_more (λ (x : Outcome). asked_by x.output x.ok) before.0 this _ _ _ before.4 did.asked,
-            told_more (λ (x : Outcome). prints_by x.output x.ok) before.0 this _ _ _ before.5 did.prints,
-            told_more (λ (x : Outcome). filings_by x.output x.ok) before.0 this _ _ _ before.6 did.filings,
+            carried_more here before.0 this c.index-letters-place.result _ _ _ sends before.3 did.adds,
           );
       few = omega (arith, c.loop-place.invariant.few, did.few, ap comebacks grown, comebacks_append (take c.loop-place.place c.args.outputs.now) (o ∷ []));
       room = omega (arith, c.loop-place.invariant.room, did.few, did.room, one_at_most o);
       heard = did.heard ∙ c.loop-place.invariant.heard;
+      borrows = did.borrows ∙ c.loop-place.invariant.borrows;
     }
 
 pub returns-clause-carried : goal.returns-clause-carried
@@ -57,7 +55,4 @@ returns-clause-carried g c = λ here same.
           (omega (arith, c.loop-place-test.false)) c.loop-place.auto.place-end,
       before.2,
       before.3,
-      before.4,
-      before.5,
-      before.6,
     )

@@ -1,31 +1,74 @@
-use Rattle.std.proofs.Common.{refl, ap, sym, subst, [], inl, arith}
+use Rattle.std.proofs.Common.{◌≡◌, rules, ap, sym, ◌∙◌, subst, refl, [], inl, arith}
 use Rattle.nqs_types.specs.declared.ids.HostId.{HostId}
-use Rattle.nqs_node.specs.Nodes.{active_of, content_of}
+use Rattle.nqs_node.specs.Nodes.{content_of}
+use Rattle.nqs_outside.specs.Causes.{Rose}
+use Rattle.nqs_serve.specs.Ends.{Ends}
 use Rattle.nqs_serve.specs.Events.{Here}
-use Rattle.nqs_serve.specs.Runs.{idle, none_begun}
-use Rattle.nqs_serve.specs.Moments.{IsPassed}
+use Rattle.nqs_serve.specs.Runs.{idle, none_begun, Ran}
 use Rattle.nqs_serve.specs.Nodes.{here_of}
+use Rattle.nqs_serve.specs.Tellings.{Telling, telling}
+use Rattle.nqs_serve.specs.declared.daemon.ServeEnd.TheVariants as end
 use Rattle.nqs_serve.proofs.Acts.{ran_none}
-use Rattle.nqs_serve.proofs.Moments.{through_none}
+use Rattle.nqs_serve.proofs.Keeping.{kept_none}
+use Rattle.nqs_serve.proofs.Passing.{ends_tell}
 use Rattle.nqs_serve.proofs.Sendable.{me_is_host}
 use Rattle.nqs_records.specs.Values.{IsHost}
 use Rattle.nqs_store.specs.Told.{Host}
 use Rattle.nqs_serve.proofs.daemon.serve.Goals as goal
 
 pub returns-in-Err-clause-run : goal.returns-in-Err-clause-run
-returns-in-Err-clause-run g c = λ tells s told. (
-  [],
-  idle s,
-  none_begun,
-  ran_none (here_of c.args.node.now) (idle s) _,
-  ((s, told, inl (refl, refl)), record { before = []; last = []; are = refl; none = refl; at_most_one = omega arith; few = omega arith }),
-  (active_of c.args.node.now, through_none c.args.node.now s (IsPassed (here_of c.args.node.now) (idle s) [] []) (tells, told) ([], [], refl, inl refl)),
-)
+returns-in-Err-clause-run g c = λ tells s told.
+    let node = c.args.node.now in
+    let here = here_of node in
+    let kept = kept_none node s (tells, told) in
+    let ends : Ends node s [] (end.Memory c.into.result) c.args.turns [] (idle s) none_begun node =
+    ((s, told, inl (refl, refl, kept.0)), record { before = []; last = []; are = refl; none = refl; at_most_one = omega arith; few = omega arith }) in (
+      [],
+      idle s,
+      none_begun,
+      ran_none here (idle s) _,
+      ends,
+      ends_tell here node node s [] tt (idle s) none_begun (end.Memory c.into.result) c.args.turns [] refl ends,
+    )
 
 pub returns-clause-run : goal.returns-clause-run
 returns-clause-run g c = λ tells s told.
-    let at : HostId → Here = λ me. record { me = me; site = (content_of c.args.node.now).site } in
-    c.turns_in.ensures.run s (here_of c.args.node.now) (tells, told) (ap at (sym (ap (λ h. h.me) c.state.ensures)))
+    let node = c.args.node.now in
+    let here = here_of node in
+    let at : HostId → Here = λ me. record { me = me; site = (content_of node).site } in
+    let lent = c.serve_lent.new.lent in
+    let wire : lent.wire.now ≡ c.wire-1.given.0 = search rules in
+    let launcher : lent.launcher.now ≡ c.launcher-1.given.0 = search rules in
+    let printer : lent.printer.now ≡ c.printer-1.given.0 = search rules in
+    let outlet : lent.outlet.now ≡ c.outlet-1.given.0 = search rules in
+    let clock : lent.clock.now ≡ c.clock-1.given.0 = search rules in
+    let ran = c.serve_lent.ensures.run s here (tells, told) (ap at (sym (ap (λ h. h.me) c.state.ensures))) in
+    let was : Telling = telling (g.W.Wire.traffic c.args.wire.now) (g.L.Launcher.asked c.args.launcher.now) (g.P.Printer.prints c.args.printer.now)
+    (g.O.Outlet.filings c.args.outlet.now) (g.C.Clock.given c.args.clock.now) in
+    let run : Ran here ran.0 (idle s) ran.1 ran.2 was
+    (telling (g.W.Wire.traffic c.wire-1.given.0) (g.L.Launcher.asked c.launcher-1.given.0) (g.P.Printer.prints c.printer-1.given.0)
+    (g.O.Outlet.filings c.outlet-1.given.0) (g.C.Clock.given c.clock-1.given.0)) =
+    subst (Ran here ran.0 (idle s) ran.1 ran.2 was)
+    (λ i. telling (g.W.Wire.traffic (wire i)) (g.L.Launcher.asked (launcher i)) (g.P.Printer.prints (printer i)) (g.O.Outlet.filings (outlet i))
+    (g.C.Clock.given (clock i)))
+    ran.3 in (
+      ran.0,
+      ran.1,
+      ran.2,
+      run,
+      ran.4,
+      ends_tell here node c.serve_lent.new.node s ran.0 ran.3.run ran.1 ran.2 c.serve_lent.result c.args.turns _ ran.3.leads ran.4,
+    )
 
-pub turns_in-requires-clause-host : goal.turns_in-requires-clause-host
-turns_in-requires-clause-host g c = subst (λ (h : Host). IsHost h.me) (sym c.state.ensures) (me_is_host (content_of c.args.node.now) c.requires.sound.order)
+pub returns-clause-wire_fault : goal.returns-clause-wire_fault
+returns-clause-wire_fault g c = λ is.
+    let wire : c.serve_lent.new.lent.wire.now ≡ c.wire-1.given.0 = search rules in
+    subst (λ w. Rose (g.W.Wire.receive_faults c.args.wire.now) (g.W.Wire.receive_faults w)) wire (c.serve_lent.ensures.wire_fault is)
+
+pub returns-clause-heard : goal.returns-clause-heard
+returns-clause-heard g c = λ other.
+    let wire : c.serve_lent.new.lent.wire.now ≡ c.wire-1.given.0 = search rules in
+    ap g.W.Wire.receive_faults (sym wire) ∙ c.serve_lent.ensures.heard other
+
+pub serve_lent-requires-clause-host : goal.serve_lent-requires-clause-host
+serve_lent-requires-clause-host g c = subst (λ (h : Host). IsHost h.me) (sym c.state.ensures) (me_is_host (content_of c.args.node.now) c.requires.sound.order)

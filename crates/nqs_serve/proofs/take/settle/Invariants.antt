@@ -6,13 +6,12 @@ use Rattle.nqs_rules.specs.Measure.{starts_left}
 use Rattle.nqs_rules.specs.Starts.{starts, after_starts}
 use Rattle.nqs_rules.specs.Stepped.{Stepped}
 use Rattle.nqs_back.specs.Back.{comebacks}
-use Rattle.nqs_node.specs.Nodes.{active_of, content_of, history_of}
+use Rattle.nqs_node.specs.Nodes.{content_of}
 use Rattle.nqs_node.specs.Reading.{AreShort}
-use Rattle.nqs_serve.specs.Ends.{IsBetween}
 use Rattle.nqs_serve.specs.Events.{Here}
+use Rattle.nqs_serve.specs.Keeping.{Keeps}
 use Rattle.nqs_serve.specs.Leaves.{Leaves}
 use Rattle.nqs_serve.specs.Letters.{AreReady}
-use Rattle.nqs_serve.specs.Moments.{TellsTo}
 use Rattle.nqs_serve.specs.Nodes.{Knows}
 use Rattle.nqs_serve.specs.Sends.{AreRight}
 use Rattle.nqs_serve.specs.Steps.{said}
@@ -22,17 +21,16 @@ use Rattle.nqs_serve.proofs.take.settle.Given as goal
 abbrev pub invariant-loop-cut : goal.invariant-loop-cut
 invariant-loop-cut g l = record {
   leaves : Leaves l.fn.node l.node cut.Disk (Ok (tt {0}));
-  right : AreRight 16 l.out.items;
-  short : AreShort l.out.items;
+  right : AreRight 16 l.outbox.out.items;
+  short : AreShort l.outbox.out.items;
   told : (s : Plain) → Knows l.fn.node s → (xs : List (Stepped (List ℕ))) × (starts l.now s ≡ xs ++ starts l.now (after_starts xs s))
-      × Knows l.node (after_starts xs s) × (l.out.items ≡ l.fn.out.items ++ flat_map said xs);
-  moments : (s : Plain) → Knows l.fn.node s → TellsTo (active_of l.fn.node) (active_of l.node) (history_of l.fn.node) (history_of l.node) (IsBetween l.now s);
-  many : length l.letters.items ≡ length l.out.items;
-  room : length l.back.items + length l.out.items ≤ deque_capacity l.back;
-  behind : l.back.items ≡ l.fn.back.items;
+      × Knows l.node (after_starts xs s) × (l.outbox.out.items ≡ l.fn.outbox.out.items ++ flat_map said xs) × Keeps l.fn.node l.node s xs;
+  many : length l.outbox.letters.items ≡ length l.outbox.out.items;
+  room : length l.outbox.back.items + length l.outbox.out.items ≤ deque_capacity l.outbox.back;
+  behind : l.outbox.back.items ≡ l.fn.outbox.back.items;
   ready : (s : Plain) (here : Here) → Knows l.fn.node s → here ≡ record { me = l.me; site = (content_of l.fn.node).site }
-      → AreReady here l.fn.out.items l.fn.letters.items → AreReady here l.out.items l.letters.items;
-  fewer : starts_left (content_of l.node) + comebacks l.out.items ≤ starts_left (content_of l.fn.node) + comebacks l.fn.out.items;
+      → AreReady here l.fn.outbox.out.items l.fn.outbox.letters.items → AreReady here l.outbox.out.items l.outbox.letters.items;
+  fewer : starts_left (content_of l.node) + comebacks l.outbox.out.items ≤ starts_left (content_of l.fn.node) + comebacks l.fn.outbox.out.items;
 }
 
 abbrev pub decreases-loop-cut : goal.decreases-loop-cut

@@ -2,7 +2,7 @@ use Rattle.std.proofs.Common.{Err, ap, sym, ◌∙◌}
 use Rattle.nqs_node.specs.Nodes.{content_of}
 use Rattle.nqs_node.proofs.Places.{not_both}
 use Rattle.nqs_serve.proofs.Known.{start_known}
-use Rattle.nqs_serve.proofs.Leaving.{ok_left, cut_left, ok_taken, cut_taken}
+use Rattle.nqs_serve.proofs.Leaving.{ok_left, cut_disk, cut_left, ok_taken, cut_taken, same_fault}
 use Rattle.nqs_serve.proofs.Sendable.{start_right, start_short}
 use Rattle.nqs_serve.proofs.take.start.Goals as goal
 
@@ -26,3 +26,8 @@ returns-in-Err-clause-leaves g c = cut_left _ _ _ _ _ _ c.cut_by.ensures c.in-Er
 
 pub returns-in-Err-clause-takes : goal.returns-in-Err-clause-takes
 returns-in-Err-clause-takes g c = cut_taken _ _ _ _ _ _ _ c.cut_by.ensures c.in-Err.ensures.leaves c.in-Err.ensures.takes
+
+pub returns-in-Err-clause-due : goal.returns-in-Err-clause-due
+returns-in-Err-clause-due g c = λ s which knows is.
+    start_known c.args.now c.args.node.now s knows
+    ∙ c.in-Err.ensures.due which (ap Err (cut_disk c.in-Err.fault c.cut_by.result which c.cut_by.ensures (same_fault _ _ is)))

@@ -161,3 +161,7 @@ returns-in-Ok-clause-one_back g c =
     (content_of c.args.self.now)) next.done next.picked) c.args.out.now.items c.carry_out.new.out.items
     (alike_step (content_of c.args.self.now) (λ _. map_stepped (λ _. []) next.done) next.done c.in-Ok-Some.plan next.is refl c.args.out.now.items
     c.carry_out.new.out.items c.in-Ok.ensures.carries.alike)
+
+pub returns-in-Err-carry_out-clause-due : goal.returns-in-Err-carry_out-clause-due
+returns-in-Err-carry_out-clause-due g c = λ which is.
+    ap is_some (next_is c.args.now (content_of c.args.self.now) c.in-Ok-Some.plan (sym c.in-Ok-Some.field-0-is ∙ c.in-Ok-Some.ensures)).picked
