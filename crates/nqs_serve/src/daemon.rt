@@ -17,8 +17,10 @@ ghost use Rattle.nqs_serve.specs.Moments.{TellsThroughout, IsPassed};
 ghost use Rattle.nqs_serve.specs.Tellings.{telling, AddsNone};
 
 use crate::cut::Cut;
+use crate::notes::{Notes, Unnoted};
 use crate::outside::{Lent, Outside};
 use crate::receive::{Missed, receive};
+use crate::sort::Sorted;
 use crate::take::{Outbox, take_back, take_event};
 use nqs_base::Memory;
 use nqs_node::Node;
@@ -51,7 +53,8 @@ fn end_of(cut: Cut) -> ServeEnd
     }
 }
 
-// At the tick of a quiet wire what a shortage kept back is tried once more.
+// At the tick of a quiet wire what a shortage kept back is tried once more, and the end of a job is
+// noted.
 #[tactic(auto, using(crate::proofs::Tellings::adds_none))]
 fn tend_at<X: Outside>(event: &Event, outside: &mut X)
     ensures asked { AddsNone (X.told outside.old) (X.told outside.new) }
@@ -60,6 +63,12 @@ fn tend_at<X: Outside>(event: &Event, outside: &mut X)
 {
     match event {
         Event::Tick { .. } => outside.tend(),
+        Event::Ended {
+            id,
+            start,
+            status,
+            ..
+        } => outside.ended(*id, *start, *status),
         _ => {}
     }
 }
@@ -100,8 +109,11 @@ fn turn<D: Disk, X: Outside>(
 {
     let site = node.state().site.as_slice();
     let mut event = match receive(room.outbox.alloc, me, site, outside, &mut room.buf) {
-        Ok(Some(event)) => event,
-        Ok(None) => return Ok(false),
+        Ok(Sorted::Event(event)) => event,
+        Ok(Sorted::Ignored(cause)) => {
+            outside.ignored(&cause);
+            return Ok(false);
+        }
         Err(Missed::Wire) => return Err(ServeEnd::WireFault),
         Err(Missed::Memory(memory)) => return Err(ServeEnd::Memory(memory)),
     };
@@ -157,10 +169,10 @@ fn turns_in<D: Disk, X: Outside>(
 }
 
 // The same with the parts that are lent.
-fn serve_lent<D: Disk, W: Wire, L: Launcher, P: Printer, O: Outlet, C: Clock>(
+fn serve_lent<D: Disk, W: Wire, L: Launcher, P: Printer, O: Outlet, C: Clock, N: Notes>(
     me: HostId,
     node: &mut Node<D>,
-    lent: &mut Lent<'_, '_, '_, '_, '_, W, L, P, O, C>,
+    lent: &mut Lent<'_, '_, '_, '_, '_, '_, W, L, P, O, C, N>,
     room: &mut Room,
     turns: u64,
 ) -> ServeEnd
@@ -230,6 +242,39 @@ pub fn serve<D: Disk, W: Wire, L: Launcher, P: Printer, O: Outlet, C: Clock>(
     ensures disk_fault { (which : Which) → result ≡ ServeEnd.DiskFault which → IsTrue (is_stopped node.new)
         × Rose (D.faults (disk_of which node.old)) (D.faults (disk_of which node.new)) }
 {
+    let mut notes = Unnoted {};
+    serve_with_notes(
+        alloc, node, wire, launcher, printer, outlet, clock, &mut notes, turns,
+    )
+}
+
+/// Serves a host as `serve` does, and notes for its operator what no clause speaks of.
+pub fn serve_with_notes<D: Disk, W: Wire, L: Launcher, P: Printer, O: Outlet, C: Clock, N: Notes>(
+    alloc: Global,
+    node: &mut Node<D>,
+    wire: &mut W,
+    launcher: &mut L,
+    printer: &mut P,
+    outlet: &mut O,
+    clock: &mut C,
+    notes: &mut N,
+    turns: u64,
+) -> ServeEnd
+    requires sound { IsSoundHost (content_of node.old) }
+    requires running { is_stopped node.old ≡ false }
+    ensures sound { IsSoundHost (content_of node.new) }
+    ensures site { (content_of node.new).site ≡ (content_of node.old).site }
+    ensures run { IsTrue D.tells → (s : Plain) → Tells node.old s → (acts : List Act) × (t : Turn) × (more : Begun)
+        × Ran (here_of node.old) acts (idle s) t more
+        (telling (W.traffic wire.old) (L.asked launcher.old) (P.prints printer.old) (O.filings outlet.old) (C.given clock.old))
+        (telling (W.traffic wire.new) (L.asked launcher.new) (P.prints printer.new) (O.filings outlet.new) (C.given clock.new))
+        × Ends node.old s (run_calls (here_of node.old) (idle s) acts) result turns (stops (here_of node.old) (idle s) acts) t more node.new
+        × TellsThroughout (active_of node.old) (history_of node.old) (history_of node.new) (IsPassed (here_of node.old) (idle s) acts more.moments) }
+    ensures wire_fault { result ≡ ServeEnd.WireFault → Rose (W.receive_faults wire.old) (W.receive_faults wire.new) }
+    ensures heard { result ≢ ServeEnd.WireFault → W.receive_faults wire.new ≡ W.receive_faults wire.old }
+    ensures disk_fault { (which : Which) → result ≡ ServeEnd.DiskFault which → IsTrue (is_stopped node.new)
+        × Rose (D.faults (disk_of which node.old)) (D.faults (disk_of which node.new)) }
+{
     let buf = match vec![in alloc; 0u8; ROOM] {
         Ok(buf) => buf,
         Err(refused) => return ServeEnd::Memory(refused.into()),
@@ -247,6 +292,7 @@ pub fn serve<D: Disk, W: Wire, L: Launcher, P: Printer, O: Outlet, C: Clock>(
         printer,
         outlet,
         clock,
+        notes,
     };
     let me = node.state().me;
     serve_lent(me, node, &mut lent, &mut room, turns)

@@ -23,6 +23,6 @@ mod take;
 mod text;
 
 pub use comeback::Comeback;
-pub use daemon::{ServeEnd, serve};
+pub use daemon::{ServeEnd, serve, serve_with_notes};
 pub use notes::Notes;
 pub use sort::{IgnoreCause, Sorted, sort_datagram};

@@ -2,7 +2,7 @@
 //! speaks of it.
 
 use crate::sort::IgnoreCause;
-use nqs_types::{HostId, RequestId};
+use nqs_types::RequestId;
 
 /// What a daemon notes for its operator. A note is made once what it tells of is done, and changes
 /// nothing of what the daemon does.
@@ -10,10 +10,17 @@ pub trait Notes {
     /// A datagram was passed over, for this cause.
     fn ignored(&mut self, cause: &IgnoreCause);
 
-    /// The end of a job came: of this start of its request, with this status.
+    /// The end of a job came: of this start of its request, with this status. It may come more than
+    /// once.
     fn ended(&mut self, id: RequestId, start: u16, status: u8);
+}
 
-    /// Whether a host of the site is silent, where that has changed: an offer to it was taken back
-    /// for want of an answer, or it was heard again.
-    fn peer(&mut self, host: HostId, silent: bool);
+/// Notes nothing.
+#[derive(Drop)]
+pub(crate) struct Unnoted {}
+
+impl Notes for Unnoted {
+    fn ignored(&mut self, _cause: &IgnoreCause) {}
+
+    fn ended(&mut self, _id: RequestId, _start: u16, _status: u8) {}
 }

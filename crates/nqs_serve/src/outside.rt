@@ -3,6 +3,8 @@
 ghost use Rattle.std.specs.Prelude.{◌≡◌, ◌<◌, [], ◌∷◌, ℕ, List, IfOk, OnErr, OnOk, length};
 ghost use Rattle.nqs_outside.specs.Causes.{Rose};
 
+use crate::notes::Notes;
+use crate::sort::IgnoreCause;
 use nqs_base::Name;
 use nqs_outside::{Address, Clock, Failed, Launcher, Outlet, Printer, Received, Wire};
 use nqs_types::{LaunchOrder, RequestId};
@@ -69,6 +71,18 @@ pub(crate) trait Outside {
         ensures heard { receive_faults self.new ≡ receive_faults self.old }
         ensures borrows { borrows self.new ≡ borrows self.old };
 
+    /// Notes that a datagram was passed over, for this cause.
+    fn ignored(&mut self, cause: &IgnoreCause)
+        ensures asked { AddsNone (told self.old) (told self.new) }
+        ensures heard { receive_faults self.new ≡ receive_faults self.old }
+        ensures borrows { borrows self.new ≡ borrows self.old };
+
+    /// Notes that the end of a job came.
+    fn ended(&mut self, id: RequestId, start: u16, status: u8)
+        ensures asked { AddsNone (told self.old) (told self.new) }
+        ensures heard { receive_faults self.new ≡ receive_faults self.old }
+        ensures borrows { borrows self.new ≡ borrows self.old };
+
     /// The moment.
     fn now(&mut self) -> u64
         ensures given { Gives (told self.old) (told self.new) (result ∷ []) }
@@ -78,17 +92,31 @@ pub(crate) trait Outside {
 
 /// The parts that `serve` is lent, each for a time of its own.
 #[derive(Drop)]
-pub(crate) struct Lent<'w, 'l, 'p, 'o, 'c, W: Wire, L: Launcher, P: Printer, O: Outlet, C: Clock> {
+pub(crate) struct Lent<
+    'w,
+    'l,
+    'p,
+    'o,
+    'c,
+    'n,
+    W: Wire,
+    L: Launcher,
+    P: Printer,
+    O: Outlet,
+    C: Clock,
+    N: Notes,
+> {
     pub(crate) wire: &'w mut W,
     pub(crate) launcher: &'l mut L,
     pub(crate) printer: &'p mut P,
     pub(crate) outlet: &'o mut O,
     pub(crate) clock: &'c mut C,
+    pub(crate) notes: &'n mut N,
 }
 
 #[tactic(auto, using(nqs_outside::proofs::Told::extends_none))]
-impl<W: Wire, L: Launcher, P: Printer, O: Outlet, C: Clock> Outside
-    for Lent<'_, '_, '_, '_, '_, W, L, P, O, C> {
+impl<W: Wire, L: Launcher, P: Printer, O: Outlet, C: Clock, N: Notes> Outside
+    for Lent<'_, '_, '_, '_, '_, '_, W, L, P, O, C, N> {
     ghost use Rattle.nqs_serve.specs.Tellings.{telling};
 
     ghost told = { λ o. telling (W.traffic o.wire.now) (L.asked o.launcher.now) (P.prints o.printer.now) (O.filings o.outlet.now) (C.given o.clock.now) };
@@ -123,6 +151,14 @@ impl<W: Wire, L: Launcher, P: Printer, O: Outlet, C: Clock> Outside
 
     fn write_file(&mut self, path: &[u8], bytes: &[u8]) -> bool {
         self.outlet.write_file(path, bytes).is_ok()
+    }
+
+    fn ignored(&mut self, cause: &IgnoreCause) {
+        self.notes.ignored(cause);
+    }
+
+    fn ended(&mut self, id: RequestId, start: u16, status: u8) {
+        self.notes.ended(id, start, status);
     }
 
     fn now(&mut self) -> u64 {

@@ -1,12 +1,13 @@
 //! A receive, and the event that it brought.
 
-ghost use Rattle.std.specs.Prelude.{◌≡◌, ◌<◌, ◌∷◌, [], IfOk, IsErrOf, IfSome, IsTrue, length};
+ghost use Rattle.std.specs.Prelude.{◌≡◌, ◌<◌, ◌∷◌, [], IfOk, IsErrOf, IsTrue, length};
 ghost use Rattle.nqs_base.specs.Want.{want};
 ghost use Rattle.nqs_outside.specs.Causes.{Rose};
 ghost use Rattle.nqs_outside.specs.Asked.{Arrival, came, inbound};
 ghost use Rattle.nqs_rules.specs.Sane.{is_sane_event};
 ghost use Rattle.nqs_serve.specs.Events.{Here, event_in};
 ghost use Rattle.nqs_serve.specs.Sends.{is_right_event};
+ghost use Rattle.nqs_serve.specs.Sorted.{taken_of, IfEvent};
 ghost use Rattle.nqs_serve.specs.Tellings.{AddsNone, Passes};
 
 use crate::outside::Outside;
@@ -24,33 +25,30 @@ pub(crate) enum Missed {
     Memory(Memory),
 }
 
-// The event that a datagram is, with the moment 0, if it is one.
-fn event_in(alloc: Global, me: HostId, site: &[Name], bytes: &[u8]) -> Result<Option<Event>, Memory>
-    ensures event { IfOk result (λ event. event ≡ event_in (record { me = me; site = site.now }) (came bytes.now)) }
-    ensures sane { IfOk result (λ event. IfSome event (λ e. IsTrue (is_sane_event (length site.now) e))) }
-    ensures right { IfOk result (λ event. IfSome event (λ e. IsTrue (is_right_event (length site.now) e))) }
+// What a datagram is, with the moment 0 where it is an event.
+#[tactic(auto, using(crate::proofs::Sorting::at_zero))]
+fn sorted_in(alloc: Global, me: HostId, site: &[Name], bytes: &[u8]) -> Result<Sorted, Memory>
+    ensures event { IfOk result (λ s. taken_of s ≡ event_in (record { me = me; site = site.now }) (came bytes.now)) }
+    ensures sane { IfOk result (λ s. IfEvent s (λ e. IsTrue (is_sane_event (length site.now) e))) }
+    ensures right { IfOk result (λ s. IfEvent s (λ e. IsTrue (is_right_event (length site.now) e))) }
 {
-    match sort_datagram(alloc, site, me, 0, bytes) {
-        Ok(Sorted::Event(event)) => Ok(Some(event)),
-        Ok(Sorted::Ignored(_)) => Ok(None),
-        Err(memory) => Err(memory),
-    }
+    sort_datagram(alloc, site, me, 0, bytes)
 }
 
-/// The event that a receive brought, if it brought one. The buffer has room for one byte more than
-/// the longest datagram.
+/// What a receive brought: an event with the moment 0, or what is ignored. The buffer has room for
+/// one byte more than the longest datagram.
 pub(crate) fn receive<X: Outside>(
     alloc: Global,
     me: HostId,
     site: &[Name],
     outside: &mut X,
     buf: &mut [u8],
-) -> Result<Option<Event>, Missed>
+) -> Result<Sorted, Missed>
     requires room { 49_152 < length buf.old }
-    ensures came { IfOk result (λ event. (arrival : Arrival) × (event ≡ event_in (record { me = me; site = site.now }) arrival)
+    ensures came { IfOk result (λ s. (arrival : Arrival) × (taken_of s ≡ event_in (record { me = me; site = site.now }) arrival)
         × Passes (X.told outside.old) (X.told outside.new) (inbound arrival ∷ [])) }
-    ensures sane { IfOk result (λ event. IfSome event (λ e. IsTrue (is_sane_event (length site.now) e))) }
-    ensures right { IfOk result (λ event. IfSome event (λ e. IsTrue (is_right_event (length site.now) e))) }
+    ensures sane { IfOk result (λ s. IfEvent s (λ e. IsTrue (is_sane_event (length site.now) e))) }
+    ensures right { IfOk result (λ s. IfEvent s (λ e. IsTrue (is_right_event (length site.now) e))) }
     ensures cut { IsErrOf result (Missed.Memory want) → (arrival : Arrival) × Passes (X.told outside.old) (X.told outside.new) (inbound arrival ∷ []) }
     ensures lost { IsErrOf result Missed.Wire → AddsNone (X.told outside.old) (X.told outside.new)
         × Rose (X.receive_faults outside.old) (X.receive_faults outside.new) }
@@ -62,9 +60,9 @@ pub(crate) fn receive<X: Outside>(
         return Err(Missed::Wire);
     };
     match received {
-        Received::Quiet => Ok(Some(Event::Tick { now: 0 })),
-        Received::Datagram(count) => match event_in(alloc, me, site, &buf[..count]) {
-            Ok(event) => Ok(event),
+        Received::Quiet => Ok(Sorted::Event(Event::Tick { now: 0 })),
+        Received::Datagram(count) => match sorted_in(alloc, me, site, &buf[..count]) {
+            Ok(sorted) => Ok(sorted),
             Err(memory) => Err(Missed::Memory(memory)),
         },
     }

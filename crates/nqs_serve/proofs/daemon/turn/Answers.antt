@@ -1,4 +1,4 @@
-use Rattle.std.proofs.Common.{◌≡◌, ℕ, refl, ap, sym, subst, ◌∙◌, ◌++◌, [], ◌∷◌, List, length, map, arith, inl, inr, Some, None, Err, IsTrue, IfSome}
+use Rattle.std.proofs.Common.{◌≡◌, ℕ, refl, ap, sym, subst, ◌∙◌, ◌++◌, [], ◌∷◌, List, length, map, arith, inl, inr, Some, None, Err, IsTrue}
 use Rattle.std.specs.Option.{option_to_list}
 use Rattle.nqs_rules.specs.Sane.{is_sane_event}
 use Rattle.nqs_rules.specs.Stepped.{Stepped}
@@ -13,19 +13,20 @@ use Rattle.nqs_serve.proofs.Ending.{one_receive, cut_ends, cut_early, disk_cut, 
 use Rattle.nqs_serve.proofs.Keeping.{kept_none, kept_both, kept_then, behind_both}
 use Rattle.nqs_serve.proofs.Leaving.{none_left, then_left, left_as, left_by, no_error}
 use Rattle.nqs_serve.specs.Sends.{is_right_event}
+use Rattle.nqs_serve.specs.Sorted.{taken_of, IfEvent}
 use Rattle.nqs_serve.proofs.daemon.turn.Goals as goal
 
-pub returns-in-Ok-None-clause-ok : goal.returns-in-Ok-None-clause-ok
-returns-in-Ok-None-clause-ok g c = λ s here knows same.
-    let came = c.in-Ok-None.ensures.came in
+pub returns-in-Ok-Ignored-clause-ok : goal.returns-in-Ok-Ignored-clause-ok
+returns-in-Ok-Ignored-clause-ok g c = λ s here knows same.
+    let came = c.in-Ok-Ignored.ensures.came in
     let at : List (List ℕ) → Here = λ names. record { me = c.args.me; site = names } in
     let is_here : at c.as_slice-site.result.now ≡ here = ap at (c.as_slice-site.ensures ∙ ap (λ h. h.site) c.state.ensures) ∙ sym same in
-    let none : None ≡ event_in here came.0 = sym c.in-Ok-None.field-0-is ∙ came.1 ∙ ap (λ h. event_in h came.0) is_here in (
+    let none : None ≡ event_in here came.0 = sym (ap taken_of c.in-Ok-Ignored.field-0-is) ∙ came.1 ∙ ap (λ h. event_in h came.0) is_here in (
       received came.0 ∷ [],
       s,
       knows,
       ap (λ o. stops_by o s ∷ []) (sym none),
-      ran_received here s came.0 None _ _ none came.2,
+      ran_received here s came.0 None _ _ none (tended_grew here came.0 _ _ _ came.2 c.ignored.ensures.asked),
       kept_none c.args.node.now s knows,
     )
 
@@ -53,25 +54,25 @@ returns-in-Err-Memory-clause-err g c = λ s here knows same.
 
 pub take_event-taken-requires-clause-sane : goal.take_event-taken-requires-clause-sane
 take_event-taken-requires-clause-sane g c =
-    let some : IsTrue (is_sane_event (length c.as_slice-site.result.now) c.in-Ok-Some.event) =
-    subst (λ o. IfSome o (λ e. IsTrue (is_sane_event (length c.as_slice-site.result.now) e))) c.in-Ok-Some.field-0-is c.in-Ok-Some.ensures.sane in
-    subst (λ (names : List (List ℕ)). IsTrue (is_sane_event (length names) c.in-Ok-Some.event))
+    let some : IsTrue (is_sane_event (length c.as_slice-site.result.now) c.in-Ok-Event.event) =
+    subst (λ o. IfEvent o (λ e. IsTrue (is_sane_event (length c.as_slice-site.result.now) e))) c.in-Ok-Event.field-0-is c.in-Ok-Event.ensures.sane in
+    subst (λ (names : List (List ℕ)). IsTrue (is_sane_event (length names) c.in-Ok-Event.event))
     (c.as_slice-site.ensures ∙ ap (λ h. h.site) c.state.ensures) some
 
 pub take_event-taken-requires-clause-right : goal.take_event-taken-requires-clause-right
 take_event-taken-requires-clause-right g c =
-    let some : IsTrue (is_right_event (length c.as_slice-site.result.now) c.in-Ok-Some.event) =
-    subst (λ o. IfSome o (λ e. IsTrue (is_right_event (length c.as_slice-site.result.now) e))) c.in-Ok-Some.field-0-is c.in-Ok-Some.ensures.right in
-    subst (λ (names : List (List ℕ)). IsTrue (is_right_event (length names) c.in-Ok-Some.event))
+    let some : IsTrue (is_right_event (length c.as_slice-site.result.now) c.in-Ok-Event.event) =
+    subst (λ o. IfEvent o (λ e. IsTrue (is_right_event (length c.as_slice-site.result.now) e))) c.in-Ok-Event.field-0-is c.in-Ok-Event.ensures.right in
+    subst (λ (names : List (List ℕ)). IsTrue (is_right_event (length names) c.in-Ok-Event.event))
     (c.as_slice-site.ensures ∙ ap (λ h. h.site) c.state.ensures) some
 
 pub returns-in-Err-clause-err : goal.returns-in-Err-clause-err
 returns-in-Err-clause-err g c = λ s here knows same.
-    let e = c.in-Ok-Some.event in
-    let came = c.in-Ok-Some.ensures.came in
+    let e = c.in-Ok-Event.event in
+    let came = c.in-Ok-Event.ensures.came in
     let at : List (List ℕ) → Here = λ names. record { me = c.args.me; site = names } in
     let is_here : at c.as_slice-site.result.now ≡ here = ap at (c.as_slice-site.ensures ∙ ap (λ h. h.site) c.state.ensures) ∙ sym same in
-    let some : Some e ≡ event_in here came.0 = sym c.in-Ok-Some.field-0-is ∙ came.1 ∙ ap (λ h. event_in h came.0) is_here in
+    let some : Some e ≡ event_in here came.0 = sym (ap taken_of c.in-Ok-Event.field-0-is) ∙ came.1 ∙ ap (λ h. event_in h came.0) is_here in
     let cut = c.in-Err.ensures.cut s here knows same in
     let bs = stops_by (event_in here came.0) s ∷ [] in
     let old = c.args.node.now in
@@ -92,11 +93,11 @@ returns-in-Err-clause-err g c = λ s here knows same.
 
 pub returns-in-Err-take_back-clause-err : goal.returns-in-Err-take_back-clause-err
 returns-in-Err-take_back-clause-err g c = λ s here knows same.
-    let e = c.in-Ok-Some.event in
-    let came = c.in-Ok-Some.ensures.came in
+    let e = c.in-Ok-Event.event in
+    let came = c.in-Ok-Event.ensures.came in
     let at : List (List ℕ) → Here = λ names. record { me = c.args.me; site = names } in
     let is_here : at c.as_slice-site.result.now ≡ here = ap at (c.as_slice-site.ensures ∙ ap (λ h. h.site) c.state.ensures) ∙ sym same in
-    let some : Some e ≡ event_in here came.0 = sym c.in-Ok-Some.field-0-is ∙ came.1 ∙ ap (λ h. event_in h came.0) is_here in
+    let some : Some e ≡ event_in here came.0 = sym (ap taken_of c.in-Ok-Event.field-0-is) ∙ came.1 ∙ ap (λ h. event_in h came.0) is_here in
     let ok = c.in-Ok.ensures.ok s here knows same in
     let cut = c.in-Err-take_back.ensures.cut (after_event ok.0 e s) here ok.3 (same ∙ ap at (sym c.in-Ok.ensures.leaves.site)) in
     let acts = received came.0 ∷ took ok.0 ok.1 ∷ cut.0 in
@@ -134,8 +135,8 @@ returns-in-Err-take_back-clause-early g c = subst (λ f. IsTrue (cuts_off f)) (s
 
 -- what each way out leaves
 
-pub returns-in-Ok-None-clause-leaves : goal.returns-in-Ok-None-clause-leaves
-returns-in-Ok-None-clause-leaves g c = none_left _ _ _ (λ which. no_error _ _) c.requires.sound c.requires.running
+pub returns-in-Ok-Ignored-clause-leaves : goal.returns-in-Ok-Ignored-clause-leaves
+returns-in-Ok-Ignored-clause-leaves g c = none_left _ _ _ (λ which. no_error _ _) c.requires.sound c.requires.running
 
 pub returns-in-Err-Wire-clause-leaves : goal.returns-in-Err-Wire-clause-leaves
 returns-in-Err-Wire-clause-leaves g c = none_left _ _ _ wire_no_disk c.requires.sound c.requires.running
@@ -156,11 +157,11 @@ returns-clause-leaves g c = left_as _ _ _ _ _ _ (λ which. no_error _ _) (then_l
 
 pub returns-clause-ok : goal.returns-clause-ok
 returns-clause-ok g c = λ s here knows same.
-    let e = c.in-Ok-Some.event in
-    let came = c.in-Ok-Some.ensures.came in
+    let e = c.in-Ok-Event.event in
+    let came = c.in-Ok-Event.ensures.came in
     let at : List (List ℕ) → Here = λ names. record { me = c.args.me; site = names } in
     let is_here : at c.as_slice-site.result.now ≡ here = ap at (c.as_slice-site.ensures ∙ ap (λ h. h.site) c.state.ensures) ∙ sym same in
-    let some : Some e ≡ event_in here came.0 = sym c.in-Ok-Some.field-0-is ∙ came.1 ∙ ap (λ h. event_in h came.0) is_here in
+    let some : Some e ≡ event_in here came.0 = sym (ap taken_of c.in-Ok-Event.field-0-is) ∙ came.1 ∙ ap (λ h. event_in h came.0) is_here in
     let ok = c.in-Ok.ensures.ok s here knows same in
     let rest = c.in_default.ensures.ok (after_event ok.0 e s) here ok.3 (same ∙ ap at (sym c.in-Ok.ensures.leaves.site)) in
     let old = c.args.node.now in

@@ -14,7 +14,7 @@ use Rattle.nqs_serve.proofs.Passing.{ends_tell}
 use Rattle.nqs_serve.proofs.Sendable.{me_is_host}
 use Rattle.nqs_records.specs.Values.{IsHost}
 use Rattle.nqs_store.specs.Told.{Host}
-use Rattle.nqs_serve.proofs.daemon.serve.Goals as goal
+use Rattle.nqs_serve.proofs.daemon.serve_with_notes.Goals as goal
 
 pub returns-in-Err-clause-run : goal.returns-in-Err-clause-run
 returns-in-Err-clause-run g c = λ tells s told.
