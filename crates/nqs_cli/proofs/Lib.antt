@@ -1,3 +1,3 @@
-pub mod Lent
+pub mod Using
 pub mod Wanting
 pub mod Serving

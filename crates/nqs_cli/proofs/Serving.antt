@@ -33,10 +33,10 @@ use Rattle.nqs_serve.specs.declared.daemon.ServeEnd.{ServeEnd}
 use Rattle.nqs_serve.specs.declared.daemon.ServeEnd.TheVariants as end
 use Rattle.nqs_clients.specs.declared.status.NqsStatus.{NqsStatus}
 use Rattle.nqs_clients.specs.declared.status.NqsStatus.TheVariants as nqs
-use Rattle.nqs_cli.specs.Daemons.{Outside, Unseen, IsUnasked, HasFailed, IsPassedSince, HasServed, HasDiskFault, Daemons, here_of, booted}
+use Rattle.nqs_cli.specs.Daemons.{Unseen, IsUnasked, HasFailed, IsPassedSince, HasServed, HasDiskFault, Daemons, here_of, booted}
 use Rattle.nqs_cli.specs.Ends.{status_of_fault, status_of_serve}
 use Rattle.nqs_cli.specs.Formats.{AreSame}
-use Rattle.nqs_cli.specs.Parts.{DisksTold}
+use Rattle.nqs_cli.specs.Parts.{DisksTold, Outside}
 
 -- whatever a stop may leave of the disks of a node tells what the node tells
 pub leaves : {D : Type 0} {g : disk.Ghosts D} (node : Node D g) (s : Plain) (k : Which → History) → IsTrue g.tells → Tells node s

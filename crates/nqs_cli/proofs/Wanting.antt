@@ -1,16 +1,15 @@
--- Why a part couldn't be had.
+-- Why parts couldn't be had.
 use Rattle.std.proofs.Common.{◌≡◌, ◌≤◌, inl, inr, ℕ, Bool, true, false, List, Option, None, Some, refl, sym, subst, arith}
 use Rattle.nqs_types.specs.declared.ids.HostId.{HostId}
 use Rattle.nqs_types.specs.declared.world.Which.{Which}
 use Rattle.nqs_outside.specs.Causes.{Rose}
-use Rattle.nqs_outside.specs.Streams.{Fed, Sunk}
 use Rattle.nqs_clients.specs.declared.status.NqsStatus.{NqsStatus}
 use Rattle.nqs_clients.specs.declared.status.NqsStatus.TheVariants.{Done, Refused, BadWords, NotNqs, ReadFault, WriteFault, Memory, NoAnswer, WireFault}
-use Rattle.nqs_clients.specs.declared.status.NqsStatus.TheVariants.{DiskFault, TurnsUsed, MachineFault, Exists}
+use Rattle.nqs_clients.specs.declared.status.NqsStatus.TheVariants.{DiskFault, TurnsUsed, MachineFault, Exists, Unread}
 use Rattle.nqs_cli.specs.Ends.{status_of_end}
-use Rattle.nqs_cli.specs.Forms.{Words}
-use Rattle.nqs_cli.specs.Runs.{Parts, Place, IsWanting, DoesOrWants, HasLooked, RunsHere, RunsAt, has_disks}
+use Rattle.nqs_cli.specs.Runs.{Parts, Place, place, Seen, IsWanting, Wants, Does, DoesOrWants, HasLooked, RunsHere, RunsAt, has_disks}
 use Rattle.nqs_cli.specs.declared.form.Form.{Form}
+use Rattle.nqs_cli.specs.declared.form.Form.TheVariants.{Format, Daemon, Client, Shepherd}
 use Rattle.nqs_cli.specs.declared.machine.MachineEnd.{MachineEnd}
 use Rattle.nqs_cli.specs.declared.machine.MachineEnd.TheVariants as machine
 
@@ -38,39 +37,41 @@ wanting_within a b c d WireFault first last w = absurd w
 wanting_within a b c d DiskFault first last w = absurd w
 wanting_within a b c d TurnsUsed first last w = absurd w
 wanting_within a b c d Exists first last w = absurd w
+wanting_within a b c d (Unread unread) first last w = absurd w
 
 -- so it is with all that is done for a host
 
-does_within : (tells : Bool) (at : Place) (form : Form) (words : Words) (source : Fed) (sink : Sunk)
-    (a b c : ℕ) (parts : Parts) (status : NqsStatus)
-    → a ≤ b → DoesOrWants tells at form words source sink b c parts status → DoesOrWants tells at form words source sink a c parts status
-does_within tells at form words source sink a b c parts status later (inl did) = inl did
-does_within tells at form words source sink a b c parts status later (inr wants) =
-    inr (wanting_within a b c c status later (omega arith) wants.0, wants.1, wants.2)
+-- the same, seen from an earlier moment
+abbrev pub since : ℕ → Seen → Seen
+since a e = record { tells = e.tells; faults = a; faults_now = e.faults_now; source = e.source; sink = e.sink }
 
-looked_within : (tells : Bool) (at : Place) (missing : Option Which) (form : Form) (words : Words) (source : Fed) (sink : Sunk)
-    (a b c : ℕ) (parts : Parts) (status : NqsStatus)
-    → a ≤ b → HasLooked tells at missing form words source sink b c parts status → HasLooked tells at missing form words source sink a c parts status
-looked_within tells at None form words source sink a b c parts status later did = does_within tells at form words source sink a b c parts status later did
-looked_within tells at (Some which) form words source sink a b c parts status later did = did
+module _ (a : ℕ) (e : Seen) (later : a ≤ e.faults) where
+  wants_since : (parts : Parts) (status : NqsStatus) → Wants e parts status → Wants (since a e) parts status
+  wants_since parts status wants = (wanting_within a e.faults e.faults_now e.faults_now status later (omega arith) wants.0, wants.1, wants.2)
 
-pub here_within : (looks tells : Bool) (at : Place) (form : Form) (words : Words) (source : Fed) (sink : Sunk)
-    (a b c : ℕ) (parts : Parts) (status : NqsStatus)
-    → a ≤ b → RunsHere looks tells at form words source sink b c parts status → RunsHere looks tells at form words source sink a c parts status
-here_within true tells at form words source sink a b c parts status later (inl wants) =
-    inl (wanting_within a b c c status later (omega arith) wants.0, wants.1, wants.2)
-here_within true tells at form words source sink a b c parts status later (inr did) =
-    inr (did.0, did.1, did.2, looked_within tells at did.0 form words source sink a b c did.1 status later did.3)
-here_within false tells at form words source sink a b c parts status later did = does_within tells at form words source sink a b c parts status later did
+  done_since : (at : Place) (form : Form) (parts : Parts) (status : NqsStatus) → Does e at form parts status → Does (since a e) at form parts status
+  done_since at Format parts status did = did
+  done_since at (Daemon turns) parts status did = did
+  done_since at (Client errand) parts status did = did
+  done_since at (Shepherd named start) parts status did = did
 
-pub looked_as : (tells : Bool) (at : Place) (form : Form) (words : Words) (source : Fed) (sink : Sunk)
-    (a b c : ℕ) (parts : Parts) (status : NqsStatus)
-    → a ≤ b → DoesOrWants tells at form words source sink b c parts status → HasLooked tells at None form words source sink a c parts status
-looked_as tells at form words source sink a b c parts status later did = does_within tells at form words source sink a b c parts status later did
+  pub does_since : (at : Place) (form : Form) (parts : Parts) (status : NqsStatus) → DoesOrWants e at form parts status
+      → DoesOrWants (since a e) at form parts status
+  does_since at form parts status (inl did) = inl (done_since at form parts status did)
+  does_since at form parts status (inr wants) = inr (wants_since parts status wants)
 
-pub runs_within : (tells : Bool) (dir : List ℕ) (names : List (List ℕ)) (host : Option HostId) (form : Form) (words : Words) (source : Fed) (sink : Sunk)
-    (a b c : ℕ) (parts : Parts) (status : NqsStatus)
-    → a ≤ b → RunsAt tells dir names host form words source sink b c parts status → RunsAt tells dir names host form words source sink a c parts status
-runs_within tells dir names None form words source sink a b c parts status later did = did
-runs_within tells dir names (Some me) form words source sink a b c parts status later did =
-    here_within (has_disks form) tells (record { dir = dir; names = names; me = me }) form words source sink a b c parts status later did
+  looked_since : (at : Place) (missing : Option Which) (form : Form) (parts : Parts) (status : NqsStatus)
+      → HasLooked e at missing form parts status → HasLooked (since a e) at missing form parts status
+  looked_since at None form parts status did = does_since at form parts status did
+  looked_since at (Some which) form parts status did = did
+
+  here_since : (looks : Bool) (at : Place) (form : Form) (parts : Parts) (status : NqsStatus) → RunsHere looks e at form parts status
+      → RunsHere looks (since a e) at form parts status
+  here_since true at form parts status (inl wants) = inl (wants_since parts status wants)
+  here_since true at form parts status (inr did) = inr (did.0, did.1, did.2, looked_since at did.0 form did.1 status did.3)
+  here_since false at form parts status did = does_since at form parts status did
+
+  pub runs_since : (dir : List ℕ) (names : List (List ℕ)) (host : Option HostId) (form : Form) (parts : Parts) (status : NqsStatus)
+      → RunsAt e dir names host form parts status → RunsAt (since a e) dir names host form parts status
+  runs_since dir names None form parts status did = did
+  runs_since dir names (Some me) form parts status did = here_since (has_disks form) (place dir names me) form parts status did

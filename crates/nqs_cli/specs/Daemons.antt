@@ -1,7 +1,6 @@
 -- What `nqs daemon` does with the parts of a host: it loads the disks, and where they are those of
 -- this host it boots the host, and serves.
 use Rattle.std.specs.Prelude.{◌≡◌, ◌⊎◌, ℕ, ◌&&◌, Bool, true, false, IsTrue, List, [], ◌∷◌, ◌++◌}
-use Rattle.std.specs.declared.option.Option.{Option}
 use Rattle.std.specs.declared.option.Option.TheVariants.{Some}
 use Rattle.std.specs.Cmp.Lexicographic.{pointwise}
 use Rattle.nqs_base.specs.Same.{name_eq}
@@ -12,20 +11,12 @@ use Rattle.nqs_types.specs.declared.world.Which.{Which}
 use Rattle.nqs_rules.specs.Applied.{applied}
 use Rattle.nqs_rules.specs.Stepped.{Stepped}
 use Rattle.nqs_rules.specs.Tests.{same_host}
-use Rattle.nqs_outside.specs.Asked.{Asked, Print, Filing}
 use Rattle.nqs_outside.specs.Causes.{Rose}
-use Rattle.nqs_outside.specs.declared.clock.Clock as clock
-use Rattle.nqs_outside.specs.declared.disk.Disk as disk
-use Rattle.nqs_outside.specs.declared.launcher.Launcher as launcher
-use Rattle.nqs_outside.specs.declared.outlet.Outlet as outlet
-use Rattle.nqs_outside.specs.declared.printer.Printer as printer
-use Rattle.nqs_outside.specs.declared.wire.Wire as wire
 use Rattle.nqs_store.specs.Active.{Active, IsActive}
 use Rattle.nqs_store.specs.Disks.{contents}
 use Rattle.nqs_store.specs.Faults.{IsLoadFault}
 use Rattle.nqs_store.specs.Commits.{EachImage}
 use Rattle.nqs_store.specs.Images.{IsTold}
-use Rattle.nqs_store.specs.declared.disks.Disks.{Disks}
 use Rattle.nqs_store.specs.declared.fault.LoadFault.TheVariants.{NotNqs}
 use Rattle.nqs_node.specs.Carried.{Kept, IsBrokenOff, IsOneOrOther}
 use Rattle.nqs_serve.specs.Ends.{EndsWith, stops}
@@ -39,36 +30,11 @@ use Rattle.nqs_serve.specs.declared.daemon.ServeEnd.TheVariants as end
 use Rattle.nqs_clients.specs.declared.status.NqsStatus.{NqsStatus}
 use Rattle.nqs_clients.specs.declared.status.NqsStatus.TheVariants.{Done, NotNqs as BadDisks, WireFault, DiskFault, TurnsUsed, Memory}
 use Rattle.nqs_cli.specs.Formats.{AreSame}
-use Rattle.nqs_cli.specs.Parts.{DisksTold, WireTold, disks_told, wire_told, Lent, disks_of, wire_of, launcher_of, printer_of, outlet_of, the_clock}
+use Rattle.nqs_cli.specs.Parts.{DisksTold, Outside}
 
--- what the parts of a daemon tell
-pub record Outside : Type 0 where
-  pub disks : DisksTold
-  pub wire : WireTold
-  pub asked : Option (List Asked)
-  pub prints : Option (List Print)
-  pub filings : Option (List Filing)
-  pub given : Option (List ℕ)
-
--- the same, from what each part tells
-abbrev pub outside : DisksTold → WireTold → Option (List Asked) → Option (List Print) → Option (List Filing) → Option (List ℕ) → Outside
-outside d w a p f c = record { disks = d; wire = w; asked = a; prints = p; filings = f; given = c }
-
-module _ {D W L P O C : Type 0} (gd : disk.Ghosts D) (gw : wire.Ghosts W) (gl : launcher.Ghosts L) (gp : printer.Ghosts P) (go : outlet.Ghosts O)
-    (gc : clock.Ghosts C) where
-  -- what these parts tell
-  abbrev pub told_of : Disks D → W → L → P → O → C → Outside
-  told_of disks w l p o c = outside (disks_told gd disks) (wire_told gw w) (gl.asked l) (gp.prints p) (go.filings o) (gc.given c)
-
--- the same without the disks
+-- what the parts of a daemon tell but for its disks
 abbrev pub telling_of : Outside → Telling
 telling_of o = telling o.wire.traffic o.asked o.prints o.filings o.given
-
--- the parts that a daemon asks for, in order
-abbrev pub daemon_parts : List ℕ → HostId → ℕ → Outside → List Lent
-daemon_parts dir me port o =
-    disks_of dir me o.disks ∷ wire_of dir (Some me) port o.wire ∷ launcher_of dir me o.asked ∷ printer_of dir me o.prints ∷ outlet_of dir me
-    o.filings ∷ the_clock o.given ∷ []
 
 -- the host that the disks tell, by what a read gives
 abbrev pub IsThere : DisksTold → Plain → Type 0

@@ -3,5 +3,4 @@ pub mod Parts
 pub mod Formats
 pub mod Daemons
 pub mod Runs
-pub mod Lending
 pub mod Ends

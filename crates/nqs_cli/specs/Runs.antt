@@ -1,35 +1,38 @@
 -- What the program does: which parts were handed over and came back, what was done with them
 -- between, and the status.
-use Rattle.std.specs.Prelude.{◌≡◌, ◌⊎◌, ℕ, ◌<◌, ◌&&◌, nat_le, Bool, true, false, if◌then◌else◌, List, [], ◌∷◌, length, take, reverse}
-use Rattle.std.specs.List.{flat_map}
+use Rattle.std.specs.Prelude.{◌≡◌, ◌⊎◌, ℕ, ◌≤◌, ◌&&◌, nat_le, Bool, true, false, if◌then◌else◌, List, [], ◌∷◌}
+use Rattle.std.specs.List.{position}
 use Rattle.std.specs.Option.{option_map}
 use Rattle.std.specs.declared.option.Option.{Option}
 use Rattle.std.specs.declared.option.Option.TheVariants.{None, Some}
+use Rattle.nqs_base.specs.Same.{name_eq}
 use Rattle.nqs_types.specs.declared.ids.HostId.{HostId}
 use Rattle.nqs_types.specs.declared.ids.Named.{Named}
 use Rattle.nqs_types.specs.declared.ids.RequestId.{RequestId}
 use Rattle.nqs_types.specs.declared.world.Which.{Which}
 use Rattle.nqs_rules.specs.Find.{host_at}
 use Rattle.nqs_words.specs.Values.{name_of}
-use Rattle.nqs_outside.specs.Asked.{Job}
 use Rattle.nqs_outside.specs.Causes.{Rose}
 use Rattle.nqs_outside.specs.Streams.{Fed, Sunk, IsUnread}
-use Rattle.nqs_clients.specs.Client as client
-use Rattle.nqs_clients.specs.Errand.{place_of}
+use Rattle.nqs_outside.specs.Told.{Extends}
+use Rattle.nqs_clients.specs.Asking.{Asking}
+use Rattle.nqs_clients.specs.Client.{EndsFor}
 use Rattle.nqs_clients.specs.Shepherd.{EndsWith, Shepherds}
 use Rattle.nqs_clients.specs.Sides.{Wired, IsUnwritten}
 use Rattle.nqs_clients.specs.declared.shepherding.ShepherdEnd.{ShepherdEnd}
 use Rattle.nqs_clients.specs.declared.shepherding.ShepherdEnd.TheVariants as shepherd
 use Rattle.nqs_clients.specs.declared.status.NqsStatus.{NqsStatus}
-use Rattle.nqs_clients.specs.declared.status.NqsStatus.TheVariants.{Done, BadWords, NotNqs, Memory, NoAnswer, WireFault, MachineFault}
-use Rattle.nqs_cli.specs.Forms.{Words, form_of}
-use Rattle.nqs_cli.specs.Parts.{DisksTold, WireTold, Lent, Back, as_lent, names_of, look_of, disks_of, wire_of, runner_of}
+use Rattle.nqs_clients.specs.declared.status.NqsStatus.TheVariants.{Done, BadWords, NotNqs, Unread, Memory, NoAnswer, WireFault, MachineFault}
+use Rattle.nqs_cli.specs.Forms.{Words, Ordered, order_of}
+use Rattle.nqs_cli.specs.Parts.{DisksTold, WireTold, Outside, Tending, MachineTold, Lent, Back, names_of, look_of, disks_of, daemon_of, client_of}
+use Rattle.nqs_cli.specs.Parts.{shepherd_of, disks_back, daemon_back, client_back, shepherd_back}
 use Rattle.nqs_cli.specs.Formats.{Formats}
-use Rattle.nqs_cli.specs.Daemons.{Outside, daemon_parts, Daemons}
+use Rattle.nqs_cli.specs.Daemons.{Daemons}
+use Rattle.nqs_cli.specs.declared.station.Station.{Station}
 use Rattle.nqs_cli.specs.declared.form.Form.{Form}
 use Rattle.nqs_cli.specs.declared.form.Form.TheVariants.{Format, Daemon, Client, Shepherd}
 
--- the parts that were handed over, and those that came back
+-- what was handed over, and what came back
 pub record Parts : Type 0 where
   pub lent : List Lent
   pub back : List Back
@@ -38,29 +41,69 @@ pub record Parts : Type 0 where
 abbrev pub no_parts : Parts
 no_parts = record { lent = []; back = [] }
 
--- parts were handed over, in this order, and came back in the other one
-abbrev pub lent_and_back : List Lent → List Lent → Parts
-lent_and_back was now = record { lent = was; back = reverse (flat_map as_lent now) }
+-- these parts were handed over, and came back so
+abbrev pub lent_and_back : Lent → Back → Parts
+lent_and_back was now = record { lent = was ∷ []; back = now ∷ [] }
 
--- a part couldn't be had: the machine's count of faults rose, or memory was wanting
+-- behind an answer that was handed over, which doesn't come back
+abbrev pub behind : Lent → Parts → Parts
+behind answer parts = record { lent = answer ∷ parts.lent; back = parts.back }
+
+-- What the machine handed over and took back is something that does so, and its count of faults has
+-- not fallen.
+pub record Uses (was now : MachineTold) (does : Parts → Type 0) : Type 0 where
+  pub parts : (parts : Parts) × Extends was.lent now.lent parts.lent × Extends was.back now.back parts.back × does parts
+  pub later : was.faults ≤ now.faults
+
+-- what is seen of a run beside its parts: whether disks tell, how often a call of the machine had
+-- failed before it and has failed now, and what was read and written
+pub record Seen : Type 0 where
+  pub tells : Bool
+  pub faults : ℕ
+  pub faults_now : ℕ
+  pub source : Fed
+  pub sink : Sunk
+
+-- the same, by what the machine told before and tells now
+abbrev pub seen : Bool → MachineTold → MachineTold → Fed → Sunk → Seen
+seen tells was now source sink = record { tells = tells; faults = was.faults; faults_now = now.faults; source = source; sink = sink }
+
+-- no byte was read or written
+abbrev pub IsUntouched : Seen → Type 0
+IsUntouched e = IsUnread e.source × IsUnwritten e.sink
+
+-- the machine handed nothing over: its count of faults rose, or memory was wanting
 abbrev pub IsWanting : ℕ → ℕ → NqsStatus → Type 0
 IsWanting faults faults_now MachineFault = Rose faults faults_now
 IsWanting faults faults_now (Memory memory) = Unit {0}
 IsWanting faults faults_now _ = ⊥
 
--- the first of these parts, which came back as they were
-abbrev pub first_of : ℕ → List Lent → Parts
-first_of n all = lent_and_back (take n all) (take n all)
-
--- one of these parts couldn't be had, and those before it came back as they were
-abbrev pub BreaksOff : List Lent → Parts → Type 0
-BreaksOff all parts = (n : ℕ) × (n < length all) × (parts ≡ first_of n all)
+-- the parts couldn't be had, and nothing was done
+abbrev pub Wants : Seen → Parts → NqsStatus → Type 0
+Wants e parts status = IsWanting e.faults e.faults_now status × (parts ≡ no_parts) × IsUntouched e
 
 -- for whom a program runs: the site's folder, the names of its hosts, and one of them
 pub record Place : Type 0 where
   pub dir : List ℕ
   pub names : List (List ℕ)
   pub me : HostId
+
+-- the same, made of its parts
+abbrev pub place : List ℕ → List (List ℕ) → HostId → Place
+place dir names me = record { dir = dir; names = names; me = me }
+
+-- the place of a station
+abbrev pub place_at : Station → Place
+place_at s = place s.dir.now s.names.now s.me
+
+-- the host of that name, where a name was read
+abbrev pub host_of : List (List ℕ) → Option (List ℕ) → Option HostId
+host_of names None = None
+host_of names (Some name) = option_map host_at (position (name_eq name) names)
+
+-- the host that a word names
+abbrev pub host_named : List (List ℕ) → List ℕ → Option HostId
+host_named names word = host_of names (name_of word)
 
 -- a request by its number and its host
 abbrev pub request : ℕ → HostId → RequestId
@@ -69,22 +112,7 @@ request seq host = record { seq = seq; host = host }
 -- the request that is named, where it may be one of the site
 abbrev pub request_named : List (List ℕ) → Named → Option RequestId
 request_named names named =
-    if nat_le 1 named.seq && nat_le named.seq 4294967294 then option_map (λ place. request named.seq (host_at place)) (place_of names named.host) else None
-
--- the host of that name, where a name was read
-abbrev pub host_of : List (List ℕ) → Option (List ℕ) → Option HostId
-host_of names None = None
-host_of names (Some name) = option_map host_at (place_of names name)
-
--- the host that a word names
-abbrev pub host_named : List (List ℕ) → List ℕ → Option HostId
-host_named names word = host_of names (name_of word)
-
--- the words of a client have no folder
-abbrev pub without_dir : Words → Words
-without_dir [] = []
-without_dir (tool ∷ []) = tool ∷ []
-without_dir (tool ∷ dir ∷ more) = tool ∷ more
+    if nat_le 1 named.seq && nat_le named.seq 4294967294 then option_map (request named.seq) (host_of names (Some named.host)) else None
 
 -- what a wire told before a client and after it
 abbrev pub wired_of : WireTold → WireTold → Wired
@@ -98,42 +126,35 @@ wired_of was now =
       send_faults_now = now.send_faults;
     }
 
--- no byte was read or written
-abbrev pub IsUntouched : Fed → Sunk → Type 0
-IsUntouched source sink = IsUnread source × IsUnwritten sink
-
 -- the disks of the host were formatted
 abbrev pub DoesFormat : Bool → Place → Parts → NqsStatus → Type 0
-DoesFormat tells at parts status = (was now : DisksTold) × (parts ≡ lent_and_back (disks_of at.dir at.me was ∷ []) (disks_of at.dir at.me now ∷ []))
+DoesFormat tells at parts status = (was now : DisksTold) × (parts ≡ lent_and_back (disks_of at.dir at.me was) (disks_back at.me now))
     × Formats tells at.me at.names was now status
 
 -- the host was booted, and served
 abbrev pub DoesDaemon : Bool → Place → ℕ → Parts → NqsStatus → Type 0
-DoesDaemon tells at turns parts status = (port : ℕ) × (was now : Outside)
-    × (parts ≡ lent_and_back (daemon_parts at.dir at.me port was) (daemon_parts at.dir at.me port now)) × Daemons tells at.me at.names turns was now status
+DoesDaemon tells at turns parts status = (was now : Outside) × (parts ≡ lent_and_back (daemon_of at.dir at.me was) (daemon_back at.me now))
+    × Daemons tells at.me at.names turns was now status
 
 -- a client asked the host
-abbrev pub DoesClient : Place → Words → Fed → Sunk → Parts → NqsStatus → Type 0
-DoesClient at words source sink parts status = (port : ℕ) × (was now : WireTold)
-    × (parts ≡ lent_and_back (wire_of at.dir None port was ∷ []) (wire_of at.dir None port now ∷ []))
-    × client.Ends at.names (without_dir words) port source (wired_of was now) sink status
+abbrev pub DoesClient : Place → Asking → Fed → Sunk → Parts → NqsStatus → Type 0
+DoesClient at errand source sink parts status = (port : ℕ) × (was now : WireTold)
+    × (parts ≡ lent_and_back (client_of at.dir port was) (client_back now)) × EndsFor port at.me errand source (wired_of was now) sink status
 
 -- where a shepherd is through
 abbrev pub status_of_shepherd : ShepherdEnd → NqsStatus
 status_of_shepherd shepherd.Told = Done
 status_of_shepherd shepherd.NoAnswer = NoAnswer
 status_of_shepherd shepherd.WireFault = WireFault
+status_of_shepherd (shepherd.Unread unread) = Unread unread
 status_of_shepherd (shepherd.Memory memory) = Memory memory
-
--- the parts that a shepherd asks for, in order
-abbrev pub shepherd_parts : Place → ℕ → Option (List Job) → WireTold → List Lent
-shepherd_parts at port runs told = runner_of at.dir at.me runs ∷ wire_of at.dir None port told ∷ []
 
 -- a shepherd ran its job and told the host its end
 abbrev pub DoesShepherd : Place → RequestId → ℕ → Parts → NqsStatus → Type 0
-DoesShepherd at id start parts status = (port : ℕ) × (runs runs_now : Option (List Job)) × (was now : WireTold) × (end : ShepherdEnd)
-    × (parts ≡ lent_and_back (shepherd_parts at port runs was) (shepherd_parts at port runs_now now)) × (status ≡ status_of_shepherd end)
-    × Shepherds at.me port id start runs runs_now was.traffic now.traffic end × EndsWith was.receive_faults now.receive_faults end
+DoesShepherd at id start parts status = (port : ℕ) × (was now : Tending) × (end : ShepherdEnd)
+    × (parts ≡ lent_and_back (shepherd_of at.dir at.me port was) (shepherd_back now)) × (status ≡ status_of_shepherd end)
+    × Shepherds at.me port id start was.runs now.runs was.wire.traffic now.wire.traffic end
+    × EndsWith was.wire.receive_faults now.wire.receive_faults end
 
 -- a shepherd did so, where the request that was named may be one of the site
 abbrev pub Tends : Place → Option RequestId → ℕ → Parts → NqsStatus → Type 0
@@ -141,81 +162,64 @@ Tends at None start parts status = (parts ≡ no_parts) × (status ≡ BadWords)
 Tends at (Some id) start parts status = DoesShepherd at id start parts status
 
 -- what a form asks for was done at a host
-abbrev pub Does : Bool → Place → Form → Words → Fed → Sunk → Parts → NqsStatus → Type 0
-Does tells at Format words source sink parts status = DoesFormat tells at parts status × IsUntouched source sink
-Does tells at (Daemon turns) words source sink parts status = DoesDaemon tells at turns parts status × IsUntouched source sink
-Does tells at Client words source sink parts status = DoesClient at words source sink parts status
-Does tells at (Shepherd named start) words source sink parts status = Tends at (request_named at.names named) start parts status × IsUntouched source sink
+abbrev pub Does : Seen → Place → Form → Parts → NqsStatus → Type 0
+Does e at Format parts status = DoesFormat e.tells at parts status × IsUntouched e
+Does e at (Daemon turns) parts status = DoesDaemon e.tells at turns parts status × IsUntouched e
+Does e at (Client errand) parts status = DoesClient at errand e.source e.sink parts status
+Does e at (Shepherd named start) parts status = Tends at (request_named at.names named) start parts status × IsUntouched e
 
--- the parts that a form asks for
-abbrev pub Asks : Place → Form → List Lent → Type 0
-Asks at Format all = (told : DisksTold) × (all ≡ disks_of at.dir at.me told ∷ [])
-Asks at (Daemon turns) all = (port : ℕ) × (told : Outside) × (all ≡ daemon_parts at.dir at.me port told)
-Asks at Client all = (port : ℕ) × (told : WireTold) × (all ≡ wire_of at.dir None port told ∷ [])
-Asks at (Shepherd named start) all = (port : ℕ) × (runs : Option (List Job)) × (told : WireTold) × (all ≡ shepherd_parts at port runs told)
+-- it was done, or its parts couldn't be had
+abbrev pub DoesOrWants : Seen → Place → Form → Parts → NqsStatus → Type 0
+DoesOrWants e at form parts status = Does e at form parts status ⊎ Wants e parts status
 
--- it was done, or a part that it asks for couldn't be had
-abbrev pub DoesOrWants : Bool → Place → Form → Words → Fed → Sunk → ℕ → ℕ → Parts → NqsStatus → Type 0
-DoesOrWants tells at form words source sink faults faults_now parts status = Does tells at form words source sink parts status
-    ⊎ (IsWanting faults faults_now status × IsUntouched source sink × ((all : List Lent) × Asks at form all × BreaksOff all parts))
+-- By the answer of the look: no disk is missing, and it was done; or one isn't there, though another
+-- has bytes, and nothing was handed over, so that nothing was touched.
+abbrev pub HasLooked : Seen → Place → Option Which → Form → Parts → NqsStatus → Type 0
+HasLooked e at None form parts status = DoesOrWants e at form parts status
+HasLooked e at (Some which) form parts status = (parts ≡ no_parts) × (status ≡ NotNqs) × IsUntouched e
+
+-- the machine is asked which disk is missing, and then it is done
+abbrev pub LooksFirst : Seen → Place → Form → Parts → NqsStatus → Type 0
+LooksFirst e at form parts status = Wants e parts status
+    ⊎ ((missing : Option Which) × (some : Parts) × (parts ≡ behind (look_of at.dir at.me missing) some) × HasLooked e at missing form some status)
 
 -- a form that asks for the disks of a host
 abbrev pub has_disks : Form → Bool
 has_disks Format = true
 has_disks (Daemon turns) = true
-has_disks Client = false
+has_disks (Client errand) = false
 has_disks (Shepherd named start) = false
 
--- a look at the disks of the host came before the parts were handed over
-abbrev pub behind_look : Place → Option Which → Parts → Parts
-behind_look at missing parts = record { lent = look_of at.dir at.me missing ∷ parts.lent; back = parts.back }
+-- what the form asks for at a host: where it asks for its disks it looks first
+abbrev pub RunsHere : Bool → Seen → Place → Form → Parts → NqsStatus → Type 0
+RunsHere true e at form parts status = LooksFirst e at form parts status
+RunsHere false e at form parts status = DoesOrWants e at form parts status
 
--- By the answer of the look: no disk is missing, and it was done; or one isn't there, though another
--- has bytes, and nothing was handed over, so that nothing was touched.
-abbrev pub HasLooked : Bool → Place → Option Which → Form → Words → Fed → Sunk → ℕ → ℕ → Parts → NqsStatus → Type 0
-HasLooked tells at None form words source sink faults faults_now parts status = DoesOrWants tells at form words source sink faults faults_now parts status
-HasLooked tells at (Some which) form words source sink faults faults_now parts status =
-    (parts ≡ no_parts) × (status ≡ NotNqs) × IsUntouched source sink
-
--- the machine is asked which disk is missing, and then it is done
-abbrev pub LooksFirst : Bool → Place → Form → Words → Fed → Sunk → ℕ → ℕ → Parts → NqsStatus → Type 0
-LooksFirst tells at form words source sink faults faults_now parts status =
-    (IsWanting faults faults_now status × IsUntouched source sink × (parts ≡ no_parts))
-    ⊎ ((missing : Option Which) × (some : Parts) × (parts ≡ behind_look at missing some)
-    × HasLooked tells at missing form words source sink faults faults_now some status)
-
--- what the form asks for at a host: a form that asks for its disks looks first
-abbrev pub RunsHere : Bool → Bool → Place → Form → Words → Fed → Sunk → ℕ → ℕ → Parts → NqsStatus → Type 0
-RunsHere true tells at form words source sink faults faults_now parts status = LooksFirst tells at form words source sink faults faults_now parts status
-RunsHere false tells at form words source sink faults faults_now parts status = DoesOrWants tells at form words source sink faults faults_now parts status
-
--- the site was read, and no part handed over
-abbrev pub IsNoHost : Fed → Sunk → Parts → NqsStatus → Type 0
-IsNoHost source sink parts status = (parts ≡ no_parts) × (status ≡ BadWords) × IsUntouched source sink
+-- the words are in no form, or name no host of the site, and no part was handed over
+abbrev pub IsRefused : Seen → Parts → NqsStatus → Type 0
+IsRefused e parts status = (parts ≡ no_parts) × (status ≡ BadWords) × IsUntouched e
 
 -- what the form asks for, where the word for the host names one of the site
-abbrev pub RunsAt : Bool → List ℕ → List (List ℕ) → Option HostId → Form → Words → Fed → Sunk → ℕ → ℕ → Parts → NqsStatus → Type 0
-RunsAt tells dir names None form words source sink faults faults_now parts status = IsNoHost source sink parts status
-RunsAt tells dir names (Some me) form words source sink faults faults_now parts status =
-    RunsHere (has_disks form) tells (record { dir = dir; names = names; me = me }) form words source sink faults faults_now parts status
-
--- a site was read before the parts were handed over
-abbrev pub behind_site : List ℕ → List (List ℕ) → Parts → Parts
-behind_site dir names parts = record { lent = names_of dir names ∷ parts.lent; back = parts.back }
+abbrev pub RunsAt : Seen → List ℕ → List (List ℕ) → Option HostId → Form → Parts → NqsStatus → Type 0
+RunsAt e dir names None form parts status = IsRefused e parts status
+RunsAt e dir names (Some me) form parts status = RunsHere (has_disks form) e (place dir names me) form parts status
 
 -- The site is read, and then what the form asks for is done at the host that is named.
-abbrev pub RunsForm : Bool → List ℕ → List ℕ → Form → Words → Fed → Sunk → ℕ → ℕ → Parts → NqsStatus → Type 0
-RunsForm tells dir host form words source sink faults faults_now parts status =
-    (IsWanting faults faults_now status × IsUntouched source sink × (parts ≡ no_parts))
-    ⊎ ((names : List (List ℕ)) × (some : Parts) × (parts ≡ behind_site dir names some)
-    × RunsAt tells dir names (host_named names host) form words source sink faults faults_now some status)
+abbrev pub RunsOrder : Seen → Ordered → Parts → NqsStatus → Type 0
+RunsOrder e o parts status = Wants e parts status
+    ⊎ ((names : List (List ℕ)) × (some : Parts) × (parts ≡ behind (names_of o.dir names) some)
+    × RunsAt e o.dir names (host_named names o.host) o.form some status)
+
+-- there was no memory for the words
+abbrev pub LacksMemory : NqsStatus → Type 0
+LacksMemory (Memory memory) = Unit {0}
+LacksMemory _ = ⊥
 
 -- the same, where the words have a form
-abbrev pub RunsWords : Bool → Option Form → Words → Fed → Sunk → ℕ → ℕ → Parts → NqsStatus → Type 0
-RunsWords tells (Some form) (tool ∷ dir ∷ host ∷ more) source sink faults faults_now parts status =
-    RunsForm tells dir host form (tool ∷ dir ∷ host ∷ more) source sink faults faults_now parts status
-RunsWords tells _ words source sink faults faults_now parts status = IsNoHost source sink parts status
+abbrev pub RunsWords : Seen → Option Ordered → Parts → NqsStatus → Type 0
+RunsWords e (Some o) parts status = RunsOrder e o parts status
+RunsWords e None parts status = IsRefused e parts status
 
 -- What the program does, by its words.
-abbrev pub Runs : Bool → Words → Fed → Sunk → ℕ → ℕ → Parts → NqsStatus → Type 0
-Runs tells words source sink faults faults_now parts status = RunsWords tells (form_of words) words source sink faults faults_now parts status
+abbrev pub Runs : Seen → Words → Parts → NqsStatus → Type 0
+Runs e words parts status = RunsWords e (order_of words) parts status ⊎ (LacksMemory status × (parts ≡ no_parts) × IsUntouched e)

@@ -1,24 +1,24 @@
 //! `nqs daemon`: the disks are read, and where they are the host's own it is booted from them, and
 //! serves.
 
-ghost use Rattle.std.specs.Prelude.{◌≡◌, ◌⊎◌, ◌≤◌, ◌<◌, ℕ, List, IsTrue};
+ghost use Rattle.std.specs.Prelude.{◌≡◌, ◌⊎◌, ℕ, List, IsTrue};
 ghost use Rattle.nqs_base.specs.declared.extent.Extent.{Extent};
 ghost use Rattle.nqs_state.specs.State.{content};
 ghost use Rattle.nqs_rules.specs.Plain.{map_state};
 ghost use Rattle.nqs_types.specs.declared.ids.HostId.{HostId};
 ghost use Rattle.nqs_types.specs.declared.world.Which.{Which};
 ghost use Rattle.nqs_outside.specs.History.{IsQuiet};
-ghost use Rattle.nqs_outside.specs.Told.{Extends};
 ghost use Rattle.nqs_store.specs.Disks.{histories_of};
 ghost use Rattle.nqs_store.specs.declared.disks.Disks.{Disks};
 ghost use Rattle.nqs_node.specs.Boots.{IsLoaded};
-ghost use Rattle.nqs_cli.specs.Parts.{disks_told};
-ghost use Rattle.nqs_cli.specs.Daemons.{Outside, told_of, Daemons, IsHere, is_here, daemon_parts};
+ghost use Rattle.nqs_cli.specs.Parts.{disks_told, daemon_told};
+ghost use Rattle.nqs_cli.specs.Daemons.{Daemons, IsHere, is_here};
 ghost use Rattle.nqs_cli.specs.Ends.{status_of_fault, status_of_serve};
-ghost use Rattle.nqs_cli.specs.Runs.{Parts as Lists, IsWanting, DoesDaemon, BreaksOff};
+ghost use Rattle.nqs_cli.specs.Runs.{Uses, DoesDaemon, IsWanting, no_parts, place_at};
 
-use crate::lending::{Parts, give_back, lend};
-use crate::machine::{Machine, Notices};
+use crate::machine::{Machine, Notices, status_of_end};
+use crate::parts::{Around, DaemonParts};
+use crate::station::Station;
 use nqs_base::Name;
 use nqs_clients::NqsStatus;
 use nqs_node::Node;
@@ -70,31 +70,37 @@ fn boot_and_serve<
     N: Notices,
 >(
     alloc: Global,
-    store: Store<D>,
-    state: HostState,
+    loaded: (Store<D>, HostState),
     notices: &N,
-    wire: &mut W,
-    launcher: &mut L,
-    printer: &mut P,
-    outlet: &mut O,
-    clock: &mut C,
+    around: &mut Around<W, L, P, O, C>,
     turns: u64,
 ) -> (NqsStatus, Disks<D>)
-    requires loaded { (disks : Disks D) × IsLoaded disks store state }
-    ensures { (me : HostId) (names : List (List ℕ)) (disks : Disks D) → IsLoaded disks store state
+    requires loaded { (disks : Disks D) × IsLoaded disks loaded.0 loaded.1 }
+    ensures { (me : HostId) (names : List (List ℕ)) (disks : Disks D) → IsLoaded disks loaded.0 loaded.1
         → IsHere D.tells me names (disks_told D.Disk disks)
         → Daemons D.tells me names turns
-        (told_of D.Disk W.Wire L.Launcher P.Printer O.Outlet C.Clock disks wire.old launcher.old printer.old outlet.old clock.old)
-        (told_of D.Disk W.Wire L.Launcher P.Printer O.Outlet C.Clock result.1 wire.new launcher.new printer.new outlet.new clock.new)
+        (daemon_told D.Disk W.Wire L.Launcher P.Printer O.Outlet C.Clock disks around.old)
+        (daemon_told D.Disk W.Wire L.Launcher P.Printer O.Outlet C.Clock result.1 around.new)
         result.0 }
 {
+    let (store, state) = loaded;
     let mut said = Vec::new(alloc);
     match Node::boot_loaded(alloc, store, state, &mut said) {
-        Err((fault, disks)) => (status_of_fault(fault), disks),
+        Err((fault, disks)) => {
+            notices.not_booted(&fault);
+            (status_of_fault(fault), disks)
+        }
         Ok(mut node) => {
             notices.booted(node.state(), &said);
             let end = serve(
-                alloc, &mut node, wire, launcher, printer, outlet, clock, turns,
+                alloc,
+                &mut node,
+                &mut around.wire,
+                &mut around.launcher,
+                &mut around.printer,
+                &mut around.outlet,
+                &mut around.clock,
+                turns,
             );
             notices.served(node.state(), &end);
             (status_of_serve(end), node.close())
@@ -112,114 +118,44 @@ fn load_and_serve<
     C: Clock,
     N: Notices,
 >(
-    alloc: Global,
-    me: HostId,
-    names: &[Name],
-    disks: Disks<D>,
+    station: &Station<'_>,
     notices: &N,
-    wire: &mut W,
-    launcher: &mut L,
-    printer: &mut P,
-    outlet: &mut O,
-    clock: &mut C,
+    disks: Disks<D>,
+    around: &mut Around<W, L, P, O, C>,
     turns: u64,
 ) -> (NqsStatus, Disks<D>)
     requires quiet { IsTrue D.tells → (which : Which) → IsQuiet (histories_of D.history disks which) }
-    ensures { Daemons D.tells me names.now turns
-        (told_of D.Disk W.Wire L.Launcher P.Printer O.Outlet C.Clock disks wire.old launcher.old printer.old outlet.old clock.old)
-        (told_of D.Disk W.Wire L.Launcher P.Printer O.Outlet C.Clock result.1 wire.new launcher.new printer.new outlet.new clock.new)
+    ensures { Daemons D.tells station.now.me station.now.names.now turns
+        (daemon_told D.Disk W.Wire L.Launcher P.Printer O.Outlet C.Clock disks around.old)
+        (daemon_told D.Disk W.Wire L.Launcher P.Printer O.Outlet C.Clock result.1 around.new)
         result.0 }
 {
-    // The look comes behind the loading, which writes nothing, and before the boot, which keeps a
-    // record: on another host's disks that would be a restart of it, and what runs there would
-    // start again or be lost.
-    match Store::load(alloc, disks) {
+    match Store::load(station.alloc, disks) {
         Err((fault, disks)) => {
             notices.not_loaded(&fault);
             (status_of_fault(fault), disks)
         }
         Ok((store, state)) => {
-            if !is_here(me, names, &state) {
-                notices.not_here(me, names, &state);
+            if !is_here(station.me, station.names, &state) {
+                notices.not_here(station.me, station.names, &state);
                 return (NqsStatus::NotNqs, store.close());
             }
-            boot_and_serve(
-                alloc, store, state, notices, wire, launcher, printer, outlet, clock, turns,
-            )
+            boot_and_serve(station.alloc, (store, state), notices, around, turns)
         }
     }
 }
 
-// Serves with the parts that were handed over.
-fn serve_with<M: Machine>(
-    alloc: Global,
-    machine: &M,
-    me: HostId,
-    names: &[Name],
-    parts: Parts<M>,
-    turns: u64,
-) -> (NqsStatus, Parts<M>)
-    requires quiet { IsTrue M.D.tells → (which : Which) → IsQuiet (histories_of M.D.history parts.disks which) }
-    ensures { Daemons M.D.tells me names.now turns
-        (told_of M.D.Disk M.W.Wire M.L.Launcher M.P.Printer M.O.Outlet M.C.Clock
-        parts.disks parts.wire parts.launcher parts.printer parts.outlet parts.clock)
-        (told_of M.D.Disk M.W.Wire M.L.Launcher M.P.Printer M.O.Outlet M.C.Clock
-        result.1.disks result.1.wire result.1.launcher result.1.printer result.1.outlet result.1.clock)
-        result.0 }
-{
-    let Parts {
-        disks,
-        mut wire,
-        mut launcher,
-        mut printer,
-        mut outlet,
-        mut clock,
-    } = parts;
-    let (status, disks) = load_and_serve(
-        alloc,
-        me,
-        names,
-        disks,
-        machine,
-        &mut wire,
-        &mut launcher,
-        &mut printer,
-        &mut outlet,
-        &mut clock,
-        turns,
-    );
-    let parts = Parts {
-        disks,
-        wire,
-        launcher,
-        printer,
-        outlet,
-        clock,
-    };
-    (status, parts)
-}
-
 /// Serves a host for so many turns.
-pub(crate) fn daemon<M: Machine>(
-    alloc: Global,
-    machine: &mut M,
-    dir: &str,
-    names: &[Name],
-    me: HostId,
-    turns: u64,
-) -> NqsStatus
-    ensures parts { (parts : Lists) × Extends (M.told machine.old).lent (M.told machine.new).lent parts.lent
-        × Extends (M.told machine.old).back (M.told machine.new).back parts.back
-        × (DoesDaemon M.D.tells (record { dir = dir.now; names = names.now; me = me }) turns parts result
-        ⊎ (IsWanting (M.told machine.old).faults (M.told machine.new).faults result
-        × ((port : ℕ) × (told : Outside) × BreaksOff (daemon_parts dir.now me port told) parts))) }
-    ensures later { (M.told machine.old).faults ≤ (M.told machine.new).faults }
+pub(crate) fn daemon<M: Machine>(station: &Station<'_>, machine: &mut M, turns: u64) -> NqsStatus
+    ensures { Uses (M.told machine.old) (M.told machine.new)
+        (λ parts. DoesDaemon M.D.tells (place_at station.now) turns parts result
+        ⊎ (IsWanting (M.told machine.old).faults (M.told machine.new).faults result × (parts ≡ no_parts))) }
 {
-    match lend(machine, dir, me) {
-        Err(status) => status,
-        Ok(parts) => {
-            let (status, parts) = serve_with(alloc, &*machine, me, names, parts, turns);
-            give_back(machine, me, parts);
+    match machine.daemon(station.dir, station.me) {
+        Err(end) => status_of_end(end),
+        Ok(DaemonParts { disks, mut around }) => {
+            let (status, disks) = load_and_serve(station, &*machine, disks, &mut around, turns);
+            machine.daemon_back(station.me, disks, around);
             status
         }
     }

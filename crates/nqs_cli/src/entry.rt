@@ -2,6 +2,7 @@
 
 use crate::dispatch::run;
 use crate::real::RealMachine;
+use crate::told::tell_forms;
 use nqs_base::Memory;
 use nqs_clients::NqsStatus;
 use nqs_real::{Reading, Writing, fill_streams};
@@ -10,10 +11,13 @@ use std::rt::HostRuntime;
 use std::{env, io};
 
 // Words that can't be had are in no form, but where memory was wanting.
-fn status_of_error(e: &io::Error) -> NqsStatus {
+fn status_of_error(rt: &HostRuntime, e: &io::Error) -> NqsStatus {
     match Memory::of_error(e) {
         Some(memory) => NqsStatus::Memory(memory),
-        None => NqsStatus::BadWords,
+        None => {
+            tell_forms(rt);
+            NqsStatus::BadWords
+        }
     }
 }
 
@@ -22,7 +26,7 @@ fn words_of(rt: &HostRuntime) -> Result<Vec<String>, NqsStatus> {
     let mut words = Vec::new(rt.alloc());
     let given = match env::args(rt) {
         Ok(given) => given,
-        Err(e) => return Err(status_of_error(&e)),
+        Err(e) => return Err(status_of_error(rt, &e)),
     };
     for word in given.skip(1) {
         if let Err(refused) = words.push(word) {

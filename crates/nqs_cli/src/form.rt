@@ -1,26 +1,38 @@
 //! The words of the program: what is to be done, behind it the folder of the site and one of its
 //! hosts, and what it is to be done with. specs/Forms.antt says what they ask for.
 
-ghost use Rattle.std.specs.Prelude.{◌≡◌, map, string_bytes};
+ghost use Rattle.std.specs.Prelude.{◌≡◌, Ok, Err, IfSome, IfNone, map, string_bytes};
 ghost use Rattle.nqs_words.specs.Values.{number_of, named_of};
-ghost use Rattle.nqs_cli.specs.Forms.{format_of, daemon_of, job_of, shepherd_of, client_of, client_without, tick_of, is_tool, by_tool, form_of};
+ghost use Rattle.nqs_cli.specs.Forms.{format_of, daemon_of, job_of, shepherd_of, form_of, ReadsForm, ReadsOrder};
 
+use nqs_clients::{Errand, WordsStop, read_errand};
 use nqs_types::Named;
 use nqs_words::{named_of, number_of};
+use std::alloc::Global;
 
-/// What the words ask for. The folder and the host are the second and the third word.
-#[derive(Clone, Copy, Debug, PartialEq, Eq)]
+/// What is to be done at a host.
+#[derive(Drop)]
 pub enum Form {
     /// `format DIR HOST`: makes the host's disks.
     Format,
     /// `daemon DIR HOST TURNS`: serves for so many turns, each of which is a datagram or a quiet
     /// second.
     Daemon(u64),
-    /// `qsub|qstat|qdel|qmgr DIR HOST USER [WORD]..` and `tick DIR HOST USER`: asks the host's
-    /// daemon.
-    Client,
+    /// `qsub|qstat|qdel|qmgr DIR HOST USER [WORD]..` and `tick DIR HOST USER`: does this errand at
+    /// the host's daemon.
+    Client(Errand),
     /// `shepherd DIR HOST ID START`: runs the job of this start, and tells the daemon its end.
     Shepherd(Named, u16),
+}
+
+/// All that the words say: what is to be done, and where.
+#[derive(Drop)]
+pub struct Order<'a> {
+    /// The folder of the site.
+    pub dir: &'a str,
+    /// The name of the host.
+    pub host: &'a str,
+    pub form: Form,
 }
 
 fn format_of(words: &[String]) -> Option<Form>
@@ -75,76 +87,52 @@ fn shepherd_of(words: &[String]) -> Option<Form>
     job_of(id, start)
 }
 
-fn client_of(words: &[String]) -> Option<Form>
-    ensures { result ≡ client_of (map (λ s. string_bytes s) words.now) }
+// The form of words that may be in none.
+fn found(form: Option<Form>) -> Result<Form, WordsStop>
+    ensures some { IfSome form (λ f. result ≡ Ok f) }
+    ensures none { IfNone form (result ≡ Err WordsStop.BadWords) }
 {
-    if words.is_empty() {
-        None
-    } else {
-        Some(Form::Client)
+    match form {
+        Some(form) => Ok(form),
+        None => Err(WordsStop::BadWords),
     }
 }
 
-fn tick_of(words: &[String]) -> Option<Form>
-    ensures { result ≡ tick_of (map (λ s. string_bytes s) words.now) }
-{
-    let Some((_, rest)) = words.split_first() else {
-        return None;
-    };
-    client_without(rest)
-}
-
-fn client_without(words: &[String]) -> Option<Form>
-    ensures { result ≡ client_without (map (λ s. string_bytes s) words.now) }
-{
-    if words.is_empty() {
-        Some(Form::Client)
-    } else {
-        None
-    }
-}
-
-fn is_tool(word: &str) -> bool
-    ensures { result ≡ is_tool word.now }
-{
-    word == "qsub" || word == "qstat" || word == "qdel" || word == "qmgr"
-}
-
-#[tactic(auto, unfolding(crate::specs::Forms::by_tool))]
-fn by_tool(tool: &str, words: &[String]) -> Option<Form>
-    ensures { result ≡ by_tool tool.now (map (λ s. string_bytes s) words.now) }
+// What the words behind DIR and HOST ask for, by the first one.
+#[tactic(auto, unfolding(crate::specs::Forms::form_of))]
+fn read_form(alloc: Global, tool: &str, words: &[String]) -> Result<Form, WordsStop>
+    ensures { ReadsForm tool.now (map (λ s. string_bytes s) words.now) result }
 {
     if tool == "format" {
-        return format_of(words);
+        return found(format_of(words));
     }
     if tool == "daemon" {
-        return daemon_of(words);
+        return found(daemon_of(words));
     }
     if tool == "shepherd" {
-        return shepherd_of(words);
+        return found(shepherd_of(words));
     }
-    if tool == "tick" {
-        return tick_of(words);
+    match read_errand(alloc, tool, words) {
+        Ok(errand) => Ok(Form::Client(errand)),
+        Err(stop) => Err(stop),
     }
-    if is_tool(tool) {
-        return client_of(words);
-    }
-    None
 }
 
-/// What the words ask for, if they are in form.
-#[tactic(auto, unfolding(crate::specs::Forms::form_of))]
-pub fn read_form(words: &[String]) -> Option<Form>
-    ensures { result ≡ form_of (map (λ s. string_bytes s) words.now) }
+/// Reads the words once: what is to be done, and where.
+pub fn read_order(alloc: Global, words: &[String]) -> Result<Order<'_>, WordsStop>
+    ensures { ReadsOrder (map (λ s. string_bytes s) words.now) result }
 {
     let Some((tool, rest)) = words.split_first() else {
-        return None;
+        return Err(WordsStop::BadWords);
     };
-    let Some((_, rest)) = rest.split_first() else {
-        return None;
+    let Some((dir, rest)) = rest.split_first() else {
+        return Err(WordsStop::BadWords);
     };
-    let Some((_, rest)) = rest.split_first() else {
-        return None;
+    let Some((host, rest)) = rest.split_first() else {
+        return Err(WordsStop::BadWords);
     };
-    by_tool(tool, rest)
+    match read_form(alloc, tool, rest) {
+        Ok(form) => Ok(Order { dir, host, form }),
+        Err(stop) => Err(stop),
+    }
 }

@@ -1,20 +1,22 @@
-//! The machine that a program runs on: it hands out the outside part by part, and takes the parts
-//! back.
+//! The machine that a program runs on: it hands out the parts of the outside that a form asks for,
+//! in one call, and takes them back in one.
 
-ghost use Rattle.std.specs.Prelude.{◌≤◌, [], ◌∷◌, IsTrue, IfOk, length};
+ghost use Rattle.std.specs.Prelude.{◌≡◌, ◌≤◌, ◌∷◌, IsTrue, IfOk, length};
 ghost use Rattle.nqs_types.specs.declared.world.Which.{Which};
 ghost use Rattle.nqs_outside.specs.History.{IsQuiet};
-ghost use Rattle.nqs_outside.specs.Told.{Extends};
 ghost use Rattle.nqs_store.specs.Disks.{histories_of};
+ghost use Rattle.nqs_cli.specs.Ends.{status_of_end};
 
+use crate::parts::{Around, DaemonParts, ShepherdParts};
 use nqs_base::{Memory, Name, NameList};
+use nqs_clients::NqsStatus;
 use nqs_outside::{Clock, Disk, Launcher, Outlet, Printer, Runner, Wire};
 use nqs_serve::ServeEnd;
 use nqs_state::HostState;
 use nqs_store::{Disks, LoadFault};
 use nqs_types::{HostId, Output, Which};
 
-/// Why a part can't be had.
+/// Why parts can't be had.
 #[derive(Debug, Drop)]
 pub enum MachineEnd {
     /// A call of the machine failed: its count of faults rose.
@@ -23,10 +25,35 @@ pub enum MachineEnd {
     Memory(Memory),
 }
 
-/// What a daemon tells its operator, beside all that its host does.
+/// The status of a program that parts are wanting to.
+pub(crate) fn status_of_end(end: MachineEnd) -> NqsStatus
+    ensures { result ≡ status_of_end end }
+{
+    match end {
+        MachineEnd::Failed => NqsStatus::MachineFault,
+        MachineEnd::Memory(memory) => NqsStatus::Memory(memory),
+    }
+}
+
+/// What the program tells its operator, beside all that a host does. No clause speaks of it.
 pub trait Notices {
+    /// The words are in no form.
+    fn not_in_form(&self);
+
+    /// The site in this folder has no host of this name.
+    fn no_such_host(&self, dir: &str, name: &str);
+
+    /// A disk of the host that is formatted has bytes already.
+    fn has_disks(&self);
+
+    /// A call of a disk of the host failed, or the disk is full, before the host could serve.
+    fn disk_failed(&self, which: Which);
+
     /// Why the host's disks can't be loaded.
     fn not_loaded(&self, fault: &LoadFault);
+
+    /// Why the host, which was loaded, can't be booted.
+    fn not_booted(&self, fault: &LoadFault);
 
     /// The disks are those of another host, or of another site, than this one of a site with these
     /// names.
@@ -40,11 +67,11 @@ pub trait Notices {
     fn served(&self, state: &HostState, end: &ServeEnd);
 }
 
-/// The machine. `dir` is the folder of a site; every part that was handed out is to be handed back.
+/// The machine. `dir` is the folder of a site; all that was handed out is to be handed back.
 pub trait Machine: Notices {
-    ghost use Rattle.nqs_cli.specs.Parts.{MachineTold, HandsOver, TakesBack, disks_told, wire_told};
-    ghost use Rattle.nqs_cli.specs.Parts.{names_of, look_of, disks_of, wire_of, launcher_of, printer_of, outlet_of, runner_of, the_clock};
-    ghost use Rattle.nqs_cli.specs.Parts.{disks_back, wire_back, launcher_back, printer_back, outlet_back, runner_back, clock_back};
+    ghost use Rattle.nqs_cli.specs.Parts.{MachineTold, HandsOver, TakesBack, disks_told, wire_told, daemon_told, shepherd_told};
+    ghost use Rattle.nqs_cli.specs.Parts.{names_of, look_of, disks_of, daemon_of, client_of, shepherd_of};
+    ghost use Rattle.nqs_cli.specs.Parts.{disks_back, daemon_back, client_back, shepherd_back};
 
     type D: Disk + Drop;
 
@@ -82,57 +109,49 @@ pub trait Machine: Notices {
         ensures quiet { IsTrue Self.D.tells → IfOk result (λ part. (which : Which) → IsQuiet (histories_of Self.D.history part which)) }
         ensures hands { HandsOver (told self.old) (told self.new) (λ part. disks_of dir.now host (disks_told Self.D.Disk part)) MachineEnd.Failed result };
 
-    /// The wire of a host's daemon, or one of a client or shepherd, and its port.
-    fn wire(&mut self, dir: &str, host: Option<HostId>) -> Result<(Self::W, u16), MachineEnd>
-        ensures { HandsOver (told self.old) (told self.new) (λ part. wire_of dir.now host part.1 (wire_told Self.W.Wire part.0)) MachineEnd.Failed result };
+    /// The parts of a host's daemon: its disks, as above, its wire, what starts its jobs and feeds
+    /// its devices, where the outputs of its requests go, and the time.
+    fn daemon(
+        &mut self,
+        dir: &str,
+        host: HostId,
+    ) -> Result<DaemonParts<Self::D, Self::W, Self::L, Self::P, Self::O, Self::C>, MachineEnd>
+        ensures quiet { IsTrue Self.D.tells → IfOk result (λ parts. (which : Which) → IsQuiet (histories_of Self.D.history parts.disks which)) }
+        ensures hands { HandsOver (told self.old) (told self.new) (λ parts. daemon_of dir.now host
+            (daemon_told Self.D.Disk Self.W.Wire Self.L.Launcher Self.P.Printer Self.O.Outlet Self.C.Clock parts.disks parts.around)) MachineEnd.Failed result };
 
-    /// What starts the jobs of a host.
-    fn launcher(&mut self, dir: &str, host: HostId) -> Result<Self::L, MachineEnd>
-        ensures { HandsOver (told self.old) (told self.new) (λ part. launcher_of dir.now host (Self.L.asked part)) MachineEnd.Failed result };
+    /// The wire of a client, and its port.
+    fn client(&mut self, dir: &str) -> Result<(Self::W, u16), MachineEnd>
+        ensures { HandsOver (told self.old) (told self.new) (λ part. client_of dir.now part.1 (wire_told Self.W.Wire part.0)) MachineEnd.Failed result };
 
-    /// What feeds the devices of a host.
-    fn printer(&mut self, dir: &str, host: HostId) -> Result<Self::P, MachineEnd>
-        ensures { HandsOver (told self.old) (told self.new) (λ part. printer_of dir.now host (Self.P.prints part)) MachineEnd.Failed result };
-
-    /// Where the outputs of a host's requests go.
-    fn outlet(&mut self, dir: &str, host: HostId) -> Result<Self::O, MachineEnd>
-        ensures { HandsOver (told self.old) (told self.new) (λ part. outlet_of dir.now host (Self.O.filings part)) MachineEnd.Failed result };
-
-    /// What runs a job of a host to its end.
-    fn runner(&mut self, dir: &str, host: HostId) -> Result<Self::R, MachineEnd>
-        ensures { HandsOver (told self.old) (told self.new) (λ part. runner_of dir.now host (Self.R.runs part)) MachineEnd.Failed result };
-
-    /// The time.
-    fn clock(&mut self) -> Self::C
-        ensures lent { Extends (told self.old).lent (told self.new).lent (the_clock (Self.C.given result) ∷ []) }
-        ensures back { Extends (told self.old).back (told self.new).back [] }
-        ensures later { (told self.old).faults ≤ (told self.new).faults };
+    /// What runs a job of a host to its end, and the wire of its shepherd.
+    fn shepherd(
+        &mut self,
+        dir: &str,
+        host: HostId,
+    ) -> Result<ShepherdParts<Self::R, Self::W>, MachineEnd>
+        ensures { HandsOver (told self.old) (told self.new)
+            (λ parts. shepherd_of dir.now host parts.port (shepherd_told Self.R.Runner Self.W.Wire parts.runner parts.wire)) MachineEnd.Failed result };
 
     /// Takes the disks of a host back.
     fn disks_back(&mut self, host: HostId, part: Disks<Self::D>)
         ensures { TakesBack (told self.old) (told self.new) (disks_back host (disks_told Self.D.Disk part)) };
 
-    /// Takes a wire back.
-    fn wire_back(&mut self, part: Self::W)
-        ensures { TakesBack (told self.old) (told self.new) (wire_back (wire_told Self.W.Wire part)) };
+    /// Takes the parts of a daemon back.
+    fn daemon_back(
+        &mut self,
+        host: HostId,
+        disks: Disks<Self::D>,
+        around: Around<Self::W, Self::L, Self::P, Self::O, Self::C>,
+    )
+        ensures { TakesBack (told self.old) (told self.new) (daemon_back host
+            (daemon_told Self.D.Disk Self.W.Wire Self.L.Launcher Self.P.Printer Self.O.Outlet Self.C.Clock disks around)) };
 
-    /// Takes a launcher back.
-    fn launcher_back(&mut self, part: Self::L)
-        ensures { TakesBack (told self.old) (told self.new) (launcher_back (Self.L.asked part)) };
+    /// Takes the wire of a client back.
+    fn client_back(&mut self, part: Self::W)
+        ensures { TakesBack (told self.old) (told self.new) (client_back (wire_told Self.W.Wire part)) };
 
-    /// Takes a printer back.
-    fn printer_back(&mut self, part: Self::P)
-        ensures { TakesBack (told self.old) (told self.new) (printer_back (Self.P.prints part)) };
-
-    /// Takes an outlet back.
-    fn outlet_back(&mut self, part: Self::O)
-        ensures { TakesBack (told self.old) (told self.new) (outlet_back (Self.O.filings part)) };
-
-    /// Takes a runner back.
-    fn runner_back(&mut self, part: Self::R)
-        ensures { TakesBack (told self.old) (told self.new) (runner_back (Self.R.runs part)) };
-
-    /// Takes a clock back.
-    fn clock_back(&mut self, part: Self::C)
-        ensures { TakesBack (told self.old) (told self.new) (clock_back (Self.C.given part)) };
+    /// Takes the parts of a shepherd back.
+    fn shepherd_back(&mut self, runner: Self::R, wire: Self::W)
+        ensures { TakesBack (told self.old) (told self.new) (shepherd_back (shepherd_told Self.R.Runner Self.W.Wire runner wire)) };
 }

@@ -1,17 +1,29 @@
-//! Why a part of the machine can't be had, as a status.
+//! The parts that a machine lends together.
 
-ghost use Rattle.std.specs.Prelude.{◌≡◌};
-ghost use Rattle.nqs_cli.specs.Ends.{status_of_end};
+use nqs_outside::Disk;
+use nqs_store::Disks;
 
-use crate::machine::MachineEnd;
-use nqs_clients::NqsStatus;
+/// The parts of a daemon but for its disks.
+#[derive(Drop)]
+pub struct Around<W, L, P, O, C> {
+    pub wire: W,
+    pub launcher: L,
+    pub printer: P,
+    pub outlet: O,
+    pub clock: C,
+}
 
-/// The status of a program that a part is wanting to.
-pub(crate) fn status_of_end(end: MachineEnd) -> NqsStatus
-    ensures { result ≡ status_of_end end }
-{
-    match end {
-        MachineEnd::Failed => NqsStatus::MachineFault,
-        MachineEnd::Memory(memory) => NqsStatus::Memory(memory),
-    }
+/// The parts of a daemon.
+#[derive(Drop)]
+pub struct DaemonParts<D: Disk, W, L, P, O, C> {
+    pub disks: Disks<D>,
+    pub around: Around<W, L, P, O, C>,
+}
+
+/// The parts of a shepherd, and the port of its wire.
+#[derive(Drop)]
+pub struct ShepherdParts<R, W> {
+    pub runner: R,
+    pub wire: W,
+    pub port: u16,
 }

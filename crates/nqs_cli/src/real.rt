@@ -8,9 +8,10 @@ ghost use Rattle.std.specs.Prelude.{◌≡◌, ◌≤◌, [], None, length, IfOk
 ghost use Rattle.nqs_outside.specs.Causes.{Rose};
 
 use crate::machine::{Machine, MachineEnd, Notices};
+use crate::parts::{Around, DaemonParts, ShepherdParts};
 use crate::told::{
-    tell_end, tell_fault, tell_launcher, tell_line, tell_lock, tell_missing, tell_others,
-    tell_port, tell_site, tell_start,
+    tell_broken, tell_end, tell_fault, tell_forms, tell_host, tell_launcher, tell_line, tell_lock,
+    tell_missing, tell_others, tell_port, tell_site, tell_start, tell_unbooted, tell_used,
 };
 use nqs_base::{Memory, Name, NameList};
 use nqs_real::{
@@ -34,13 +35,28 @@ const WAIT: u64 = 1000;
 /// The longest site file that is read, in bytes.
 const LONGEST_SITE: u64 = 4096;
 
-/// The real machine. While it lends a host's disks it holds the host's lock.
+/// The real machine. While it lends a host's disks it holds the lock of the host's folder.
 #[derive(Drop)]
 pub struct RealMachine {
     rt: HostRuntime,
     lock: Option<HostLock>,
+    // The folder of the disks that were lent last.
+    folder: String,
     faults: u64,
 }
+
+type RealAround = Around<UdpWire, ShepherdLauncher, FilePrinter, FileOutlet, SystemClock>;
+
+type RealParts = DaemonParts<
+    FileDisk,
+    UdpWire,
+    ShepherdLauncher,
+    FilePrinter,
+    FileOutlet,
+    SystemClock,
+>;
+
+type RealShepherd = ShepherdParts<ShellRunner, UdpWire>;
 
 // Why a part can't be made.
 #[derive(Drop)]
@@ -143,6 +159,7 @@ impl RealMachine {
         RealMachine {
             rt,
             lock: None,
+            folder: String::new(rt.alloc()),
             faults: 0,
         }
     }
@@ -179,27 +196,32 @@ impl RealMachine {
         Ok(names_of(self.rt.alloc(), &site)?)
     }
 
-    // The folder of a host, which is locked from now on.
-    fn locked_folder(&mut self, dir: &str, host: HostId) -> Result<String, PartFault>
+    // Locks the folder of a host, which is that of the disks from now on.
+    fn lock_folder(&mut self, dir: &str, site: &[SiteHost], host: HostId) -> Result<(), PartFault>
         ensures { self.new.faults ≡ self.old.faults }
     {
-        let site = site_at(&self.rt, dir)?;
-        let folder = made_folder(&self.rt, dir, &site, host)?;
-        self.lock = Some(lock_of(&self.rt, &folder)?);
-        Ok(folder)
+        self.folder = made_folder(&self.rt, dir, site, host)?;
+        self.lock = Some(lock_of(&self.rt, &self.folder)?);
+        Ok(())
     }
 
-    fn locked_disks(&mut self, dir: &str, host: HostId) -> Result<Disks<FileDisk>, PartFault>
-        ensures { self.new.faults ≡ self.old.faults }
-    {
-        let folder = self.locked_folder(dir, host)?;
-        let disks = had(&self.rt, "the disks", open_disks(&self.rt, &folder))?;
+    // The disks in the folder that was locked.
+    fn opened(&self) -> Result<Disks<FileDisk>, PartFault> {
+        let disks = had(&self.rt, "the disks", open_disks(&self.rt, &self.folder))?;
         Ok(Disks {
             root: disks.root,
             first: disks.first,
             second: disks.second,
             spool: disks.spool,
         })
+    }
+
+    fn locked_disks(&mut self, dir: &str, host: HostId) -> Result<Disks<FileDisk>, PartFault>
+        ensures { self.new.faults ≡ self.old.faults }
+    {
+        let site = site_at(&self.rt, dir)?;
+        self.lock_folder(dir, &site, host)?;
+        self.opened()
     }
 
     // The disk that isn't there, where another one has bytes. Its name is said.
@@ -213,6 +235,7 @@ impl RealMachine {
         Ok(missing)
     }
 
+    // The wire of a host's daemon.
     fn own_wire(&self, site: &[SiteHost], host: HostId) -> Result<UdpWire, PartFault> {
         match UdpWire::of_daemon(self.rt, site, host, WAIT) {
             Ok(wire) => Ok(wire),
@@ -223,22 +246,28 @@ impl RealMachine {
         }
     }
 
-    fn wire_of(&self, dir: &str, host: Option<HostId>) -> Result<(UdpWire, u16), PartFault> {
-        let site = site_at(&self.rt, dir)?;
-        match host {
-            None => had(
-                &self.rt,
-                "a socket",
-                UdpWire::of_client(self.rt, &site, WAIT),
-            ),
-            Some(host) => Ok((self.own_wire(&site, host)?, 0)),
-        }
+    // A wire of a client or a shepherd, and its port.
+    fn free_wire(&self, site: &[SiteHost]) -> Result<(UdpWire, u16), PartFault> {
+        had(
+            &self.rt,
+            "a socket",
+            UdpWire::of_client(self.rt, site, WAIT),
+        )
     }
 
-    fn launcher_of(&self, dir: &str, host: HostId) -> Result<ShepherdLauncher, PartFault> {
+    fn client_wire(&self, dir: &str) -> Result<(UdpWire, u16), PartFault> {
         let site = site_at(&self.rt, dir)?;
+        self.free_wire(&site)
+    }
+
+    fn own_launcher(
+        &self,
+        dir: &str,
+        site: &[SiteHost],
+        host: HostId,
+    ) -> Result<ShepherdLauncher, PartFault> {
         let program = had(&self.rt, "the program's own path", own_program(&self.rt))?;
-        match ShepherdLauncher::open(self.rt, &program, dir, &site, host) {
+        match ShepherdLauncher::open(self.rt, &program, dir, site, host) {
             Ok(launcher) => Ok(launcher),
             Err(e) => {
                 tell_launcher(&self.rt, &e);
@@ -247,39 +276,83 @@ impl RealMachine {
         }
     }
 
-    fn printer_of(&self, dir: &str, host: HostId) -> Result<FilePrinter, PartFault> {
-        let site = site_at(&self.rt, dir)?;
-        let folder = made_folder(&self.rt, dir, &site, host)?;
+    fn own_printer(&self, site: &[SiteHost]) -> Result<FilePrinter, PartFault> {
         had(
             &self.rt,
             "the folder printed",
-            FilePrinter::open(self.rt, &folder, &site),
+            FilePrinter::open(self.rt, &self.folder, site),
         )
     }
 
-    fn outlet_of(&self, dir: &str, host: HostId) -> Result<FileOutlet, PartFault> {
-        let site = site_at(&self.rt, dir)?;
-        let folder = made_folder(&self.rt, dir, &site, host)?;
+    fn own_outlet(&self) -> Result<FileOutlet, PartFault> {
         had(
             &self.rt,
             "the folder output",
-            FileOutlet::open(self.rt, &folder),
+            FileOutlet::open(self.rt, &self.folder),
         )
     }
 
-    fn runner_of(&self, dir: &str, host: HostId) -> Result<ShellRunner, PartFault> {
+    // What is around the disks of a host whose folder is locked.
+    fn around(&self, dir: &str, site: &[SiteHost], host: HostId) -> Result<RealAround, PartFault> {
+        let wire = self.own_wire(site, host)?;
+        let launcher = self.own_launcher(dir, site, host)?;
+        let printer = self.own_printer(site)?;
+        let outlet = self.own_outlet()?;
+        Ok(Around {
+            wire,
+            launcher,
+            printer,
+            outlet,
+            clock: SystemClock::new(self.rt),
+        })
+    }
+
+    // The parts of a daemon in a folder that is locked from now on.
+    fn locked_parts(&mut self, dir: &str, host: HostId) -> Result<RealParts, PartFault>
+        ensures { self.new.faults ≡ self.old.faults }
+    {
         let site = site_at(&self.rt, dir)?;
-        had(
+        self.lock_folder(dir, &site, host)?;
+        let disks = self.opened()?;
+        let around = self.around(dir, &site, host)?;
+        Ok(DaemonParts { disks, around })
+    }
+
+    fn shepherd_of(&self, dir: &str, host: HostId) -> Result<RealShepherd, PartFault> {
+        let site = site_at(&self.rt, dir)?;
+        let runner = had(
             &self.rt,
             "the folder work",
             ShellRunner::open(self.rt, dir, &site, host),
-        )
+        )?;
+        let (wire, port) = self.free_wire(&site)?;
+        Ok(ShepherdParts { runner, wire, port })
     }
 }
 
 impl Notices for RealMachine {
+    fn not_in_form(&self) {
+        tell_forms(&self.rt);
+    }
+
+    fn no_such_host(&self, dir: &str, name: &str) {
+        let _ = tell_host(&self.rt, dir, name);
+    }
+
+    fn has_disks(&self) {
+        let _ = tell_used(&self.rt, &self.folder);
+    }
+
+    fn disk_failed(&self, which: Which) {
+        let _ = tell_broken(&self.rt, &self.folder, which);
+    }
+
     fn not_loaded(&self, fault: &LoadFault) {
-        tell_fault(&self.rt, fault);
+        tell_fault(&self.rt, &self.folder, fault);
+    }
+
+    fn not_booted(&self, fault: &LoadFault) {
+        tell_unbooted(&self.rt, &self.folder, fault);
     }
 
     fn not_here(&self, me: HostId, names: &[Name], state: &HostState) {
@@ -297,7 +370,7 @@ impl Notices for RealMachine {
 
 impl Machine for RealMachine {
     ghost use Rattle.nqs_store.specs.Disks.{disk_at};
-    ghost use Rattle.nqs_cli.specs.Parts.{TakesBack, disks_back};
+    ghost use Rattle.nqs_cli.specs.Parts.{TakesBack, disks_back, daemon_back};
 
     type D = FileDisk;
 
@@ -329,36 +402,28 @@ impl Machine for RealMachine {
 
     fn disks(&mut self, dir: &str, host: HostId) -> Result<Disks<FileDisk>, MachineEnd> {
         let made = self.locked_disks(dir, host);
+        if made.is_err() {
+            self.lock = None;
+        }
         self.answer(made)
     }
 
-    fn wire(&mut self, dir: &str, host: Option<HostId>) -> Result<(UdpWire, u16), MachineEnd> {
-        let made = self.wire_of(dir, host);
+    fn daemon(&mut self, dir: &str, host: HostId) -> Result<RealParts, MachineEnd> {
+        let made = self.locked_parts(dir, host);
+        if made.is_err() {
+            self.lock = None;
+        }
         self.answer(made)
     }
 
-    fn launcher(&mut self, dir: &str, host: HostId) -> Result<ShepherdLauncher, MachineEnd> {
-        let made = self.launcher_of(dir, host);
+    fn client(&mut self, dir: &str) -> Result<(UdpWire, u16), MachineEnd> {
+        let made = self.client_wire(dir);
         self.answer(made)
     }
 
-    fn printer(&mut self, dir: &str, host: HostId) -> Result<FilePrinter, MachineEnd> {
-        let made = self.printer_of(dir, host);
+    fn shepherd(&mut self, dir: &str, host: HostId) -> Result<RealShepherd, MachineEnd> {
+        let made = self.shepherd_of(dir, host);
         self.answer(made)
-    }
-
-    fn outlet(&mut self, dir: &str, host: HostId) -> Result<FileOutlet, MachineEnd> {
-        let made = self.outlet_of(dir, host);
-        self.answer(made)
-    }
-
-    fn runner(&mut self, dir: &str, host: HostId) -> Result<ShellRunner, MachineEnd> {
-        let made = self.runner_of(dir, host);
-        self.answer(made)
-    }
-
-    fn clock(&mut self) -> SystemClock {
-        SystemClock::new(self.rt)
     }
 
     fn disks_back(&mut self, host: HostId, part: Disks<FileDisk>)
@@ -370,15 +435,20 @@ impl Machine for RealMachine {
         self.lock = None;
     }
 
-    fn wire_back(&mut self, _part: UdpWire) {}
+    fn daemon_back(&mut self, host: HostId, disks: Disks<FileDisk>, around: RealAround)
+        ensures { TakesBack (record { lent = None; back = None; faults = self.old.faults }) (record { lent = None; back = None; faults = self.new.faults })
+            (daemon_back host (record {
+                disks = record { histories = λ which. record { start = []; calls = [] }; faults = λ which. (disk_at which disks).faults };
+                wire = record { traffic = None; receive_faults = around.wire.receive_faults; send_faults = around.wire.send_faults };
+                asked = None; prints = None; filings = None; given = None })) }
+    {
+        let _ = host;
+        drop(around);
+        drop(disks);
+        self.lock = None;
+    }
 
-    fn launcher_back(&mut self, _part: ShepherdLauncher) {}
+    fn client_back(&mut self, _part: UdpWire) {}
 
-    fn printer_back(&mut self, _part: FilePrinter) {}
-
-    fn outlet_back(&mut self, _part: FileOutlet) {}
-
-    fn runner_back(&mut self, _part: ShellRunner) {}
-
-    fn clock_back(&mut self, _part: SystemClock) {}
+    fn shepherd_back(&mut self, _runner: ShellRunner, _wire: UdpWire) {}
 }

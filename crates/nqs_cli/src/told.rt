@@ -44,32 +44,78 @@ fn bytes_text(which: Which, place: u64) -> &'static str {
     }
 }
 
-fn not_nqs(rt: &HostRuntime, which: Which, place: u64) -> io::Result<()> {
+fn not_nqs(rt: &HostRuntime, folder: &str, which: Which, place: u64) -> io::Result<()> {
     let text = bytes_text(which, place);
     let disk = disk_text(which);
     tell(
         rt,
-        &format!(in rt.alloc(); "its disks aren't served: {disk}, byte {place}: {text}")?,
+        &format!(in rt.alloc(); "its disks aren't served: {folder}/{disk}, byte {place}: {text}")?,
     );
     Ok(())
 }
 
-fn disk_failed(rt: &HostRuntime, which: Which) -> io::Result<()> {
+// Says which disk failed, and at what.
+fn disk_failed(rt: &HostRuntime, folder: &str, which: Which, what: &str) -> io::Result<()> {
     let disk = disk_text(which);
     tell(
         rt,
-        &format!(in rt.alloc(); "its disk {disk} failed while it was read")?,
+        &format!(in rt.alloc(); "its disk {folder}/{disk} {what}")?,
     );
     Ok(())
 }
 
 /// Says why disks can't be loaded. Want of memory has its status.
-pub(crate) fn tell_fault(rt: &HostRuntime, fault: &LoadFault) {
+pub(crate) fn tell_fault(rt: &HostRuntime, folder: &str, fault: &LoadFault) {
     let _ = match fault {
-        LoadFault::NotNqs(which, place) => not_nqs(rt, *which, *place),
-        LoadFault::Disk(which) => disk_failed(rt, *which),
+        LoadFault::NotNqs(which, place) => not_nqs(rt, folder, *which, *place),
+        LoadFault::Disk(which) => disk_failed(rt, folder, *which, "failed while it was read"),
         LoadFault::Memory(_) => Ok(()),
     };
+}
+
+/// Says why a host can't be booted. Want of memory has its status.
+pub(crate) fn tell_unbooted(rt: &HostRuntime, folder: &str, fault: &LoadFault) {
+    let _ = match fault {
+        LoadFault::NotNqs(which, place) => not_nqs(rt, folder, *which, *place),
+        LoadFault::Disk(which) => disk_failed(rt, folder, *which, "failed at its boot, or is full"),
+        LoadFault::Memory(_) => Ok(()),
+    };
+}
+
+/// Says which disk failed while a host was formatted.
+pub(crate) fn tell_broken(rt: &HostRuntime, folder: &str, which: Which) -> io::Result<()> {
+    disk_failed(rt, folder, which, "failed, or is full")
+}
+
+/// Says that the disks of a host that is to be formatted aren't empty.
+pub(crate) fn tell_used(rt: &HostRuntime, folder: &str) -> io::Result<()> {
+    tell(
+        rt,
+        &format!(in rt.alloc(); "the disks in {folder} have bytes, and stay as they are")?,
+    );
+    Ok(())
+}
+
+// The forms that the words may have.
+const FORMS: &str = "usage: nqs format DIR HOST
+       nqs daemon DIR HOST TURNS
+       nqs qsub|qstat|qdel|qmgr DIR HOST USER [WORD]..
+       nqs tick DIR HOST USER
+       nqs shepherd DIR HOST SEQ.HOST START
+All WORDs together have at most 4,000 bytes, where each counts 4 more.";
+
+/// Says which forms the words may have.
+pub(crate) fn tell_forms(rt: &HostRuntime) {
+    let _ = rt.eprintln(FORMS);
+}
+
+/// Says that a site has no host of this name.
+pub(crate) fn tell_host(rt: &HostRuntime, dir: &str, name: &str) -> io::Result<()> {
+    tell(
+        rt,
+        &format!(in rt.alloc(); "{dir}/site has no host {name}")?,
+    );
+    Ok(())
 }
 
 /// Says that a disk isn't there, where another one has bytes.

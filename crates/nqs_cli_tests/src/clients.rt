@@ -1,7 +1,7 @@
 //! A client and a shepherd over a wire in memory, with datagrams as `docs/formats.md` has them.
 
 use nqs_base::{Bytes, Items, Memory, Name};
-use nqs_clients::{NqsStatus, ShepherdEnd, client, shepherd};
+use nqs_clients::{Errand, NqsStatus, ShepherdEnd, WordsStop, client, read_errand, shepherd};
 use nqs_fakes::{Item, Kept, MemRunner, MemWire};
 use nqs_outside::{Address, ListSource, MemSink, RunEnd};
 use nqs_types::{HostId, RequestId};
@@ -113,19 +113,31 @@ fn is_told(wire: &MemWire, bytes: &[u8], turns: u8) -> bool {
         })
 }
 
+// The errand of a tool and the words behind it, if they ask for one.
+fn errand(alloc: Global, tool: &str, line: &[&str]) -> Result<Option<Errand>, Memory> {
+    let words = words(alloc, line)?;
+    match read_errand(alloc, tool, &words) {
+        Ok(errand) => Ok(Some(errand)),
+        Err(WordsStop::BadWords) => Ok(None),
+        Err(WordsStop::Memory(memory)) => Err(memory),
+    }
+}
+
 // Whether the client ends so, and writes this.
 fn ends(
     alloc: Global,
-    line: &[&str],
+    errand: Option<Errand>,
     input: &[u8],
     wire: &mut MemWire,
     end: (NqsStatus, &[u8]),
-) -> Result<bool, Memory> {
-    let words = words(alloc, line)?;
+) -> bool {
+    let Some(errand) = errand else {
+        return false;
+    };
     let mut out = MemSink::new(alloc, 100, Vec::new(alloc));
     let mut input = ListSource::new(input);
-    let status = client(alloc, &[alpha()], &words, 9, wire, &mut input, &mut out);
-    Ok(status == end.0 && out.taken() == end.1)
+    let status = client(alloc, HostId(0), errand, 9, wire, &mut input, &mut out);
+    status == end.0 && out.taken() == end.1
 }
 
 #[test]
@@ -135,8 +147,8 @@ fn writes_the_answer(rt: HostRuntime) -> Result<(), Fail> {
         alloc,
         &[&[], &OTHER_ANSWER, &ACK, &[1, 11], &ANSWER, &REFUSAL],
     )?;
-    let line = ["qstat", "alpha", "ann"];
-    let ended = ends(alloc, &line, &[], &mut wire, (NqsStatus::Done, b"ok\n"))?;
+    let errand = errand(alloc, "qstat", &["ann"])?;
+    let ended = ends(alloc, errand, &[], &mut wire, (NqsStatus::Done, b"ok\n"));
     let asked = is_asked(&wire, &ASK, 5);
     drop(wire);
     assert_eq!(rt; [ended, asked], [true; 2]);
@@ -149,8 +161,8 @@ fn fails_with_its_send(rt: HostRuntime) -> Result<(), Fail> {
     let alloc = rt.alloc();
     let sends = Vec::from_slice(alloc, &[1])?;
     let mut wire = MemWire::new(alloc, Items::new(alloc), Vec::new(alloc), sends);
-    let line = ["tick", "alpha", "ann"];
-    let ended = ends(alloc, &line, &[], &mut wire, (NqsStatus::WireFault, b""))?;
+    let errand = errand(alloc, "tick", &["ann"])?;
+    let ended = ends(alloc, errand, &[], &mut wire, (NqsStatus::WireFault, b""));
     let silent = wire.kept().len() == 1 && !wire.kept().iter().any(is_receive);
     drop(wire);
     assert_eq!(rt; [ended, silent], [true; 2]);
@@ -161,8 +173,8 @@ fn fails_with_its_send(rt: HostRuntime) -> Result<(), Fail> {
 fn writes_a_refusal(rt: HostRuntime) -> Result<(), Fail> {
     let alloc = rt.alloc();
     let mut wire = wire(alloc, &[&REFUSAL])?;
-    let line = ["qdel", "alpha", "ann", "7.alpha"];
-    let ended = ends(alloc, &line, &[], &mut wire, (NqsStatus::Refused, b"no\n"))?;
+    let errand = errand(alloc, "qdel", &["ann", "7.alpha"])?;
+    let ended = ends(alloc, errand, &[], &mut wire, (NqsStatus::Refused, b"no\n"));
     drop(wire);
     assert_eq!(rt; ended, true);
     Ok(())
@@ -172,8 +184,8 @@ fn writes_a_refusal(rt: HostRuntime) -> Result<(), Fail> {
 fn waits_ten_times(rt: HostRuntime) -> Result<(), Fail> {
     let alloc = rt.alloc();
     let mut wire = wire(alloc, &[])?;
-    let line = ["qstat", "alpha", "ann"];
-    let ended = ends(alloc, &line, &[], &mut wire, (NqsStatus::NoAnswer, b""))?;
+    let errand = errand(alloc, "qstat", &["ann"])?;
+    let ended = ends(alloc, errand, &[], &mut wire, (NqsStatus::NoAnswer, b""));
     let asked = is_asked(&wire, &ASK, 10);
     drop(wire);
     assert_eq!(rt; [ended, asked], [true; 2]);
@@ -188,7 +200,8 @@ fn submits(
     end: (NqsStatus, &[u8]),
 ) -> Result<(bool, [usize; 2]), Memory> {
     let mut wire = wire(alloc, &[&ANSWER])?;
-    let ended = ends(alloc, &["qsub", "alpha", "ann"], script, &mut wire, end)?;
+    let errand = errand(alloc, "qsub", &["ann"])?;
+    let ended = ends(alloc, errand, script, &mut wire, end);
     let receives = wire.kept().iter().filter(|kept| is_receive(kept)).count();
     let counts = [wire.kept().len(), receives];
     drop(wire);
@@ -206,25 +219,29 @@ fn refuses_a_long_script(rt: HostRuntime) -> Result<(), Fail> {
     Ok(())
 }
 
-// Whether the words are in no form, and nothing is written.
-fn is_bad(alloc: Global, line: &[&str], wire: &mut MemWire) -> Result<bool, Memory> {
-    ends(alloc, line, &[], wire, (NqsStatus::BadWords, b""))
+// Whether the words ask for nothing.
+fn is_bad(alloc: Global, tool: &str, line: &[&str]) -> Result<bool, Memory> {
+    Ok(errand(alloc, tool, line)?.is_none())
 }
 
+// The 4,000 bytes that a tool's words may have hold 3,996 of one word.
 #[test]
 fn refuses_bad_words(rt: HostRuntime) -> Result<(), Fail> {
     let alloc = rt.alloc();
-    let mut wire = wire(alloc, &[])?;
-    let ended = [
-        is_bad(alloc, &["qstat", "alpha"], &mut wire)?,
-        is_bad(alloc, &["qcat", "alpha", "ann"], &mut wire)?,
-        is_bad(alloc, &["qstat", "beta", "ann"], &mut wire)?,
-        is_bad(alloc, &["qstat", "alpha", "9"], &mut wire)?,
-        is_bad(alloc, &["tick", "alpha", "ann", "now"], &mut wire)?,
+    let mut long = String::new(alloc);
+    for _ in 0..3_996 {
+        long.push_str("x")?;
+    }
+    let fits = is_bad(alloc, "qdel", &["ann", &long])?;
+    long.push_str("x")?;
+    let bad = [
+        is_bad(alloc, "qstat", &[])?,
+        is_bad(alloc, "qcat", &["ann"])?,
+        is_bad(alloc, "qstat", &["9"])?,
+        is_bad(alloc, "tick", &["ann", "now"])?,
+        is_bad(alloc, "qdel", &["ann", &long])?,
     ];
-    let silent = wire.kept().is_empty();
-    drop(wire);
-    assert_eq!(rt; (ended, silent), ([true; 5], true));
+    assert_eq!(rt; (fits, bad), (false, [true; 5]));
     Ok(())
 }
 

@@ -1,48 +1,48 @@
 //! A machine in memory. Its site is `alpha` alone, and `alpha` and `beta` in the folder `two`. All
 //! hosts have the same disks, which stay from one run to the next; the other parts are new each
-//! time.
+//! time. It tells what it lends and takes back.
 
-ghost use Rattle.std.specs.Prelude.{◌≡◌, ◌≤◌, ◌<◌, ◌+◌, IfOk, OnOk, IsErrOf, None, length};
-ghost use Rattle.nqs_types.specs.declared.world.Which.{Which};
+ghost use Rattle.std.specs.Prelude.{◌≡◌, ◌≤◌, ◌<◌, ◌+◌, [], ◌∷◌, IfOk, OnOk, IsErrOf, OnErr, Some, length};
 ghost use Rattle.nqs_outside.specs.Causes.{Rose};
-ghost use Rattle.nqs_outside.specs.History.{IsQuiet};
-ghost use Rattle.nqs_disk.specs.MemDisk.{history_of};
-ghost use Rattle.nqs_store.specs.Disks.{disk_at};
+ghost use Rattle.nqs_outside.specs.Told.{Extends};
+ghost use Rattle.nqs_fakes.specs.Runner.{runs_of};
+ghost use Rattle.nqs_cli.specs.Parts.{names_of};
+ghost use Rattle.nqs_store.specs.declared.disks.Disks.{Disks};
+ghost use Rattle.nqs_disk.specs.declared.mem_disk.MemDisk.{MemDisk};
+ghost use Rattle.nqs_cli_tests.specs.declared.kept.Images.{Images};
+ghost use Rattle.nqs_cli_tests.specs.Told.{lent_of, back_of, fresh_disks, told_disks, fresh_wire, told_wire, told_daemon, fresh_daemon};
 
-use nqs_base::{Bytes, Items, Memory, Name, NameList, Tear};
-use nqs_cli::{Machine, MachineEnd, Notices};
-use nqs_disk::{Lack, MemDisk};
-use nqs_fakes::{Item, MemLauncher, MemOutlet, MemPrinter, MemRunner, MemWire};
-use nqs_outside::{Clock, Disk, RunEnd};
+use crate::disks::{empty_disks, settled_disks};
+use crate::kept::{Images, Lending, MemAround, Returned};
+use nqs_base::{Bytes, Items, ListOf, Memory, Name, NameList};
+use nqs_cli::{Around, DaemonParts, Machine, MachineEnd, Notices, ShepherdParts};
+use nqs_disk::MemDisk;
+use nqs_fakes::{Item, ListClock, MemLauncher, MemOutlet, MemPrinter, MemRunner, MemWire};
+use nqs_outside::RunEnd;
 use nqs_serve::ServeEnd;
 use nqs_state::HostState;
 use nqs_store::{Disks, LoadFault};
 use nqs_types::{HostId, Output, Which};
 use std::alloc::Global;
 
-/// How many parts were handed out and came back.
-#[derive(Clone, Copy, Debug, PartialEq, Eq)]
-pub struct Count {
-    pub lent: u64,
-    pub back: u64,
-}
+/// The port of a client and of a shepherd.
+const PORT: u16 = 9;
 
-/// What a disk holds: how many bytes, and the first 200 of them.
-pub type Held = (u64, [u8; 200]);
+/// The moment at which the clock stands.
+const MOMENT: u64 = 7;
 
-/// The machine. It tells nothing, as a real one.
+/// The machine.
 pub struct MemMachine {
     alloc: Global,
     disks: Option<Disks<MemDisk>>,
     arrivals: Items<Item>,
-    count: Count,
+    lent: Vec<Lending>,
+    back: Vec<Returned>,
+    starved: bool,
     failing: u64,
     asked: u64,
     faults: u64,
-    /// The wire that came back last.
-    pub wire: Option<MemWire>,
-    /// The disk that isn't there.
-    pub missing: Option<Which>,
+    missing: Option<Which>,
 }
 
 // Written out, so that a machine is let go by one call.
@@ -52,106 +52,85 @@ impl Drop for MemMachine {
             alloc: _,
             disks: _,
             arrivals: _,
-            count: _,
+            lent: _,
+            back: _,
+            starved: _,
             failing: _,
             asked: _,
             faults: _,
-            wire: _,
             missing: _,
         } = self;
     }
 }
 
-// What a disk holds. One that can't be read holds more than any.
-fn held(disk: &mut MemDisk) -> Held {
-    let mut front = [0; 200];
-    let count = match (disk.len(), disk.read_at(0, &mut front)) {
-        (Ok(count), Ok(_)) => count,
-        _ => u64::MAX,
-    };
-    (count, front)
-}
-
-// Disks without bytes.
-fn empty_disks(alloc: Global) -> Disks<MemDisk> {
-    Disks {
-        root: MemDisk::new(alloc),
-        first: MemDisk::new(alloc),
-        second: MemDisk::new(alloc),
-        spool: MemDisk::new(alloc),
-    }
-}
-
-// The disks with the bytes that they have, on which nothing is pending.
-fn settled(disks: Disks<MemDisk>) -> Result<Disks<MemDisk>, Lack>
-    ensures { IfOk result (λ disks. (which : Which) → IsQuiet (history_of (disk_at which disks))) }
-{
-    let Disks {
-        root,
-        first,
-        second,
-        spool,
-    } = disks;
-    let root = root.crash(Tear::New)?;
-    let first = first.crash(Tear::New)?;
-    let second = second.crash(Tear::New)?;
-    let spool = spool.crash(Tear::New)?;
-    Ok(Disks {
-        root,
-        first,
-        second,
-        spool,
-    })
-}
-
 impl MemMachine {
-    /// A machine whose host has empty disks, and to whose wires these datagrams come. The call with
-    /// this number fails, from 1 on: reading the site is the first.
-    pub(crate) fn new(
-        alloc: Global,
-        datagrams: &[&[u8]],
-        failing: u64,
-    ) -> Result<MemMachine, Memory> {
-        let mut arrivals = Items::new(alloc);
-        for datagram in datagrams {
-            let bytes = Vec::from_slice(alloc, datagram)?;
-            arrivals.push(Item::Datagram(Bytes::from_vec(bytes)))?;
-        }
-        Ok(MemMachine {
+    ghost use Rattle.nqs_cli_tests.specs.Machine.{machine_told};
+
+    /// A machine whose host has empty disks, and to whose wires these come. The call with this
+    /// number fails, from 1 on: reading the site is the first.
+    pub fn new(alloc: Global, arrivals: Items<Item>, failing: u64) -> MemMachine
+        ensures { machine_told result ≡ record { lent = Some []; back = Some []; faults = 0 } }
+    {
+        MemMachine {
             alloc,
             disks: Some(empty_disks(alloc)),
             arrivals,
-            count: Count { lent: 0, back: 0 },
+            lent: Vec::new(alloc),
+            back: Vec::new(alloc),
+            starved: false,
             failing,
             asked: 0,
             faults: 0,
-            wire: None,
             missing: None,
-        })
-    }
-
-    /// How many parts were handed out and came back.
-    pub(crate) fn count(&self) -> Count {
-        self.count
-    }
-
-    /// What the disks hold that came back: `root`, `first`, `second` and `spool`.
-    pub(crate) fn held(&mut self) -> [Held; 4] {
-        match &mut self.disks {
-            Some(disks) => [
-                held(&mut disks.root),
-                held(&mut disks.first),
-                held(&mut disks.second),
-                held(&mut disks.spool),
-            ],
-            None => [(0, [0; 200]); 4],
         }
+    }
+
+    /// From now on this disk isn't there.
+    pub fn miss(&mut self, which: Which)
+        ensures { machine_told self.new ≡ machine_told self.old }
+    {
+        self.missing = Some(which);
+    }
+
+    /// What was lent since its lists began.
+    pub fn lent(&self) -> &[Lending]
+        ensures { result.now ≡ self.now.lent.items }
+    {
+        &self.lent
+    }
+
+    /// What came back since its lists began.
+    pub fn back(&self) -> &[Returned]
+        ensures { result.now ≡ self.now.back.items }
+    {
+        &self.back
+    }
+
+    /// Begins its lists anew. The disks that came back stay.
+    pub fn begin_anew(&mut self) {
+        while let Some(part) = self.back.pop() {
+            match part {
+                Returned::Disks(_, disks) | Returned::Daemon(_, disks, _) => {
+                    self.disks = Some(disks);
+                }
+                Returned::Client(_) | Returned::Shepherd(_, _) => {}
+            }
+        }
+        self.lent.clear();
+        self.starved = false;
+    }
+
+    /// The disks that came back, once its lists were begun anew.
+    pub fn disks(&mut self) -> Option<&mut Disks<MemDisk>> {
+        self.disks.as_mut()
     }
 
     // Counts a fault.
     fn fail(&mut self) -> MachineEnd
         ensures later { self.old.faults ≤ self.new.faults }
         ensures rose { Rose self.old.faults self.new.faults }
+        ensures lent { (machine_told self.new).lent ≡ (machine_told self.old).lent }
+        ensures back { (machine_told self.new).back ≡ (machine_told self.old).back }
     {
         self.faults = self.faults.saturating_add(1);
         MachineEnd::Failed
@@ -159,7 +138,8 @@ impl MemMachine {
 
     // One call more: does it fail?
     fn ask(&mut self) -> Result<(), MachineEnd>
-        ensures same { OnOk result (self.new.faults ≡ self.old.faults) }
+        ensures lent { (machine_told self.new).lent ≡ (machine_told self.old).lent }
+        ensures back { (machine_told self.new).back ≡ (machine_told self.old).back }
         ensures later { self.old.faults ≤ self.new.faults }
         ensures failed { IsErrOf result MachineEnd.Failed → Rose self.old.faults self.new.faults }
     {
@@ -170,16 +150,99 @@ impl MemMachine {
         Ok(())
     }
 
-    fn lend(&mut self)
-        ensures { self.new.faults ≡ self.old.faults }
+    // The end of a call. A fault is counted.
+    fn ended(&mut self, end: MachineEnd) -> MachineEnd
+        ensures lent { (machine_told self.new).lent ≡ (machine_told self.old).lent }
+        ensures back { (machine_told self.new).back ≡ (machine_told self.old).back }
+        ensures later { self.old.faults ≤ self.new.faults }
+        ensures failed { result ≡ MachineEnd.Failed → Rose self.old.faults self.new.faults }
     {
-        self.count.lent = self.count.lent.saturating_add(1);
+        match end {
+            MachineEnd::Failed => self.fail(),
+            MachineEnd::Memory(memory) => MachineEnd::Memory(memory),
+        }
+    }
+}
+
+// What is kept.
+impl MemMachine {
+    ghost use Rattle.nqs_cli_tests.specs.Machine.{machine_told};
+
+    // Keeps what is lent.
+    fn keep(&mut self, lending: Lending) -> Result<(), MachineEnd>
+        ensures lent { OnOk result (Extends (machine_told self.old).lent (machine_told self.new).lent (lent_of lending ∷ [])) }
+        ensures none { OnErr result ((machine_told self.new).lent ≡ (machine_told self.old).lent) }
+        ensures back { (machine_told self.new).back ≡ (machine_told self.old).back }
+        ensures faults { self.new.faults ≡ self.old.faults }
+        ensures only { IsErrOf result MachineEnd.Failed → ⊥ }
+    {
+        match self.lent.push(lending) {
+            Ok(()) => Ok(()),
+            Err(refused) => Err(MachineEnd::Memory(refused.into())),
+        }
     }
 
-    fn take_back(&mut self)
-        ensures { self.new.faults ≡ self.old.faults }
+    // Keeps what comes back.
+    fn take_back(&mut self, part: Returned)
+        ensures back { Extends (machine_told self.old).back (machine_told self.new).back (back_of part ∷ []) }
+        ensures lent { Extends (machine_told self.old).lent (machine_told self.new).lent [] }
+        ensures faults { self.new.faults ≡ self.old.faults }
     {
-        self.count.back = self.count.back.saturating_add(1);
+        if self.back.push(part).is_err() {
+            self.starved = true;
+        }
+    }
+
+    // The disks, which are lent from now on.
+    fn settle(&mut self) -> Result<(Disks<MemDisk>, Images), MachineEnd>
+        ensures fresh { IfOk result (λ r. told_disks r.0 ≡ fresh_disks r.1) }
+        ensures lent { (machine_told self.new).lent ≡ (machine_told self.old).lent }
+        ensures back { (machine_told self.new).back ≡ (machine_told self.old).back }
+        ensures later { self.old.faults ≤ self.new.faults }
+        ensures failed { IsErrOf result MachineEnd.Failed → Rose self.old.faults self.new.faults }
+    {
+        let Some(disks) = self.disks.take() else {
+            return Err(self.fail());
+        };
+        match settled_disks(self.alloc, disks) {
+            Ok(settled) => Ok(settled),
+            Err(end) => Err(self.ended(end)),
+        }
+    }
+
+    // A wire to which all that waits comes.
+    fn new_wire(&mut self) -> MemWire
+        ensures wire { told_wire result ≡ fresh_wire }
+        ensures told { machine_told self.new ≡ machine_told self.old }
+    {
+        let arrivals = std::mem::replace(&mut self.arrivals, Items::new(self.alloc));
+        MemWire::new(
+            self.alloc,
+            arrivals,
+            Vec::new(self.alloc),
+            Vec::new(self.alloc),
+        )
+    }
+
+    // What is around the disks of a daemon.
+    fn around(&mut self) -> Result<MemAround, MachineEnd>
+        ensures fresh { IfOk result (λ around. (disks : Disks MemDisk) (images : Images) → told_disks disks ≡ fresh_disks images
+            → told_daemon disks around ≡ fresh_daemon images) }
+        ensures told { machine_told self.new ≡ machine_told self.old }
+        ensures only { IsErrOf result MachineEnd.Failed → ⊥ }
+    {
+        let alloc = self.alloc;
+        let moments = match ListOf::of(alloc, MOMENT) {
+            Ok(moments) => moments,
+            Err(refused) => return Err(MachineEnd::Memory(refused.into())),
+        };
+        Ok(Around {
+            wire: self.new_wire(),
+            launcher: MemLauncher::new(alloc, Vec::new(alloc)),
+            printer: MemPrinter::new(alloc, Vec::new(alloc)),
+            outlet: MemOutlet::new(alloc, Vec::new(alloc)),
+            clock: ListClock::new(alloc, moments),
+        })
     }
 }
 
@@ -197,21 +260,16 @@ fn beta() -> Name {
     }
 }
 
-fn add(names: &mut NameList, name: Name) -> Result<(), MachineEnd>
-    ensures more { OnOk result (length names.new ≡ length names.old + 1) }
-    ensures only { IsErrOf result MachineEnd.Failed → ⊥ }
+fn add(names: &mut NameList, name: Name) -> Result<(), Memory>
+    ensures { OnOk result (length names.new ≡ length names.old + 1) }
 {
-    match names.push(name) {
-        Ok(()) => Ok(()),
-        Err(refused) => Err(MachineEnd::Memory(refused.into())),
-    }
+    Ok(names.push(name)?)
 }
 
 // The names of the site in a folder.
-fn names(alloc: Global, dir: &str) -> Result<NameList, MachineEnd>
+fn site_of(alloc: Global, dir: &str) -> Result<NameList, Memory>
     ensures some { IfOk result (λ names. 1 ≤ length names) }
     ensures few { IfOk result (λ names. length names ≤ 2) }
-    ensures only { IsErrOf result MachineEnd.Failed → ⊥ }
 {
     let mut names = NameList::new(alloc);
     add(&mut names, alpha())?;
@@ -221,21 +279,49 @@ fn names(alloc: Global, dir: &str) -> Result<NameList, MachineEnd>
     Ok(names)
 }
 
-/// A clock that stands still. It tells nothing.
-#[derive(Drop)]
-pub struct StoppedClock;
+fn dir_of(alloc: Global, dir: &str) -> Result<Bytes, Memory>
+    ensures { IfOk result (λ bytes. bytes ≡ dir.now) }
+{
+    Ok(Bytes::from_vec(Vec::from_slice(alloc, dir.as_bytes())?))
+}
 
-impl Clock for StoppedClock {
-    ghost given = { λ _. None };
+// The names of the site in a folder, and that they are lent.
+fn named(alloc: Global, dir: &str) -> Result<(NameList, Lending), Memory>
+    ensures lent { IfOk result (λ r. lent_of r.1 ≡ names_of dir.now r.0) }
+    ensures some { IfOk result (λ r. 1 ≤ length r.0) }
+    ensures few { IfOk result (λ r. length r.0 ≤ 2) }
+{
+    let names = site_of(alloc, dir)?;
+    let copy = names.clone()?;
+    Ok((names, Lending::Names(dir_of(alloc, dir)?, copy)))
+}
 
-    fn now(&mut self) -> u64 {
-        7
-    }
+// A runner that answers one end: the status 0 with no output.
+fn new_runner(alloc: Global) -> Result<MemRunner, Memory>
+    ensures { IfOk result (λ runner. runs_of runner ≡ Some []) }
+{
+    let end = RunEnd {
+        status: 0,
+        out: Bytes::from_vec(Vec::new(alloc)),
+        err: Bytes::from_vec(Vec::new(alloc)),
+    };
+    let ends = Items::of(alloc, end)?;
+    Ok(MemRunner::new(alloc, ends, Vec::new(alloc)))
 }
 
 // It has no operator.
 impl Notices for MemMachine {
+    fn not_in_form(&self) {}
+
+    fn no_such_host(&self, _dir: &str, _name: &str) {}
+
+    fn has_disks(&self) {}
+
+    fn disk_failed(&self, _which: Which) {}
+
     fn not_loaded(&self, _fault: &LoadFault) {}
+
+    fn not_booted(&self, _fault: &LoadFault) {}
 
     fn not_here(&self, _me: HostId, _names: &[Name], _state: &HostState) {}
 
@@ -245,8 +331,8 @@ impl Notices for MemMachine {
 }
 
 impl Machine for MemMachine {
-    ghost use Rattle.nqs_cli.specs.Parts.{TakesBack, disks_back};
-    ghost use Rattle.nqs_disk.specs.MemDisk.{faults_of};
+    ghost use Rattle.nqs_cli.specs.Parts.{TakesBack, disks_back, daemon_back};
+    ghost use Rattle.nqs_cli_tests.specs.Machine.{machine_told};
 
     type D = MemDisk;
 
@@ -258,119 +344,116 @@ impl Machine for MemMachine {
 
     type O = MemOutlet;
 
-    type C = StoppedClock;
+    type C = ListClock;
 
     type R = MemRunner;
 
-    ghost told = { λ machine. record { lent = None; back = None; faults = machine.faults } };
+    ghost told = { machine_told };
 
     fn site(&mut self, dir: &str) -> Result<NameList, MachineEnd> {
         self.ask()?;
-        names(self.alloc, dir)
+        match named(self.alloc, dir) {
+            Ok((names, lending)) => {
+                self.keep(lending)?;
+                Ok(names)
+            }
+            Err(memory) => Err(MachineEnd::Memory(memory)),
+        }
     }
 
-    fn missing_disk(&mut self, _dir: &str, _host: HostId) -> Result<Option<Which>, MachineEnd> {
+    fn missing_disk(&mut self, dir: &str, host: HostId) -> Result<Option<Which>, MachineEnd> {
         self.ask()?;
-        Ok(self.missing)
+        let missing = self.missing;
+        match dir_of(self.alloc, dir) {
+            Ok(dir) => {
+                self.keep(Lending::Look(dir, host, missing))?;
+                Ok(missing)
+            }
+            Err(memory) => Err(MachineEnd::Memory(memory)),
+        }
     }
 
-    fn disks(&mut self, _dir: &str, _host: HostId) -> Result<Disks<MemDisk>, MachineEnd> {
+    fn disks(&mut self, dir: &str, host: HostId) -> Result<Disks<MemDisk>, MachineEnd> {
         self.ask()?;
-        let Some(disks) = self.disks.take() else {
-            return Err(self.fail());
+        let dir = match dir_of(self.alloc, dir) {
+            Ok(dir) => dir,
+            Err(memory) => return Err(MachineEnd::Memory(memory)),
         };
-        let disks = match settled(disks) {
-            Ok(disks) => disks,
-            Err(Lack::Memory(memory)) => return Err(MachineEnd::Memory(memory)),
-            Err(Lack::Full(_)) => return Err(self.fail()),
-        };
-        self.lend();
+        let (disks, images) = self.settle()?;
+        self.keep(Lending::Disks(dir, host, images))?;
         Ok(disks)
     }
 
-    fn wire(&mut self, _dir: &str, _host: Option<HostId>) -> Result<(MemWire, u16), MachineEnd> {
+    fn daemon(
+        &mut self,
+        dir: &str,
+        host: HostId,
+    ) -> Result<
+        DaemonParts<MemDisk, MemWire, MemLauncher, MemPrinter, MemOutlet, ListClock>,
+        MachineEnd,
+    > {
         self.ask()?;
-        self.lend();
-        let arrivals = std::mem::replace(&mut self.arrivals, Items::new(self.alloc));
-        let wire = MemWire::new(
-            self.alloc,
-            arrivals,
-            Vec::new(self.alloc),
-            Vec::new(self.alloc),
-        );
-        Ok((wire, 9))
-    }
-
-    fn launcher(&mut self, _dir: &str, _host: HostId) -> Result<MemLauncher, MachineEnd> {
-        self.ask()?;
-        self.lend();
-        Ok(MemLauncher::new(self.alloc, Vec::new(self.alloc)))
-    }
-
-    fn printer(&mut self, _dir: &str, _host: HostId) -> Result<MemPrinter, MachineEnd> {
-        self.ask()?;
-        self.lend();
-        Ok(MemPrinter::new(self.alloc, Vec::new(self.alloc)))
-    }
-
-    fn outlet(&mut self, _dir: &str, _host: HostId) -> Result<MemOutlet, MachineEnd> {
-        self.ask()?;
-        self.lend();
-        Ok(MemOutlet::new(self.alloc, Vec::new(self.alloc)))
-    }
-
-    // It answers one end: the status 0 with no output.
-    fn runner(&mut self, _dir: &str, _host: HostId) -> Result<MemRunner, MachineEnd> {
-        self.ask()?;
-        let end = RunEnd {
-            status: 0,
-            out: Bytes::from_vec(Vec::new(self.alloc)),
-            err: Bytes::from_vec(Vec::new(self.alloc)),
+        let dir = match dir_of(self.alloc, dir) {
+            Ok(dir) => dir,
+            Err(memory) => return Err(MachineEnd::Memory(memory)),
         };
-        let ends = match Items::of(self.alloc, end) {
-            Ok(ends) => ends,
-            Err(refused) => return Err(MachineEnd::Memory(refused.into())),
-        };
-        self.lend();
-        Ok(MemRunner::new(self.alloc, ends, Vec::new(self.alloc)))
+        let around = self.around()?;
+        let (disks, images) = self.settle()?;
+        self.keep(Lending::Daemon(dir, host, images))?;
+        Ok(DaemonParts { disks, around })
     }
 
-    fn clock(&mut self) -> StoppedClock {
-        self.lend();
-        StoppedClock
+    fn client(&mut self, dir: &str) -> Result<(MemWire, u16), MachineEnd> {
+        self.ask()?;
+        match dir_of(self.alloc, dir) {
+            Ok(dir) => {
+                self.keep(Lending::Client(dir, PORT))?;
+                Ok((self.new_wire(), PORT))
+            }
+            Err(memory) => Err(MachineEnd::Memory(memory)),
+        }
+    }
+
+    fn shepherd(
+        &mut self,
+        dir: &str,
+        host: HostId,
+    ) -> Result<ShepherdParts<MemRunner, MemWire>, MachineEnd> {
+        self.ask()?;
+        let dir = match dir_of(self.alloc, dir) {
+            Ok(dir) => dir,
+            Err(memory) => return Err(MachineEnd::Memory(memory)),
+        };
+        let runner = match new_runner(self.alloc) {
+            Ok(runner) => runner,
+            Err(memory) => return Err(MachineEnd::Memory(memory)),
+        };
+        self.keep(Lending::Shepherd(dir, host, PORT))?;
+        let wire = self.new_wire();
+        Ok(ShepherdParts {
+            runner,
+            wire,
+            port: PORT,
+        })
     }
 
     fn disks_back(&mut self, host: HostId, part: Disks<MemDisk>)
-        ensures { TakesBack (record { lent = None; back = None; faults = self.old.faults }) (record { lent = None; back = None; faults = self.new.faults })
-            (disks_back host (record { histories = λ which. history_of (disk_at which part); faults = λ which. faults_of (disk_at which part) })) }
+        ensures { TakesBack (machine_told self.old) (machine_told self.new) (disks_back host (told_disks part)) }
     {
-        let _ = host;
-        self.disks = Some(part);
-        self.take_back();
+        self.take_back(Returned::Disks(host, part));
     }
 
-    fn wire_back(&mut self, part: MemWire) {
-        self.wire = Some(part);
-        self.take_back();
+    fn daemon_back(&mut self, host: HostId, disks: Disks<MemDisk>, around: MemAround)
+        ensures { TakesBack (machine_told self.old) (machine_told self.new) (daemon_back host (told_daemon disks around)) }
+    {
+        self.take_back(Returned::Daemon(host, disks, around));
     }
 
-    fn launcher_back(&mut self, _part: MemLauncher) {
-        self.take_back();
+    fn client_back(&mut self, part: MemWire) {
+        self.take_back(Returned::Client(part));
     }
 
-    fn printer_back(&mut self, _part: MemPrinter) {
-        self.take_back();
-    }
-
-    fn outlet_back(&mut self, _part: MemOutlet) {
-        self.take_back();
-    }
-
-    fn runner_back(&mut self, _part: MemRunner) {
-        self.take_back();
-    }
-
-    fn clock_back(&mut self, _part: StoppedClock) {
-        self.take_back();
+    fn shepherd_back(&mut self, runner: MemRunner, wire: MemWire) {
+        self.take_back(Returned::Shepherd(runner, wire));
     }
 }

@@ -10,12 +10,12 @@ use Rattle.nqs_outside.specs.Asked.{Arrival, Traffic, inbound}
 use Rattle.nqs_outside.specs.Told.{Extends}
 use Rattle.nqs_outside.proofs.Told.{extends_none, extends_then, extends_same}
 use Rattle.nqs_clients.specs.Datagrams.{Receives, StopsFor}
+use Rattle.nqs_clients.specs.Asking.{Asking}
 use Rattle.nqs_clients.specs.Exchange.{answer_in, answers, asked, Hears, Exchanges}
 use Rattle.nqs_clients.specs.Sides.{Wired}
 use Rattle.nqs_clients.specs.declared.answer.Answer.{Answer}
 use Rattle.nqs_clients.specs.declared.datagram.WaitStop.{WaitStop}
 use Rattle.nqs_clients.specs.declared.datagram.WaitStop.TheVariants as stop
-use Rattle.nqs_clients.specs.declared.errand.Errand.{Errand}
 use Rattle.nqs_clients.proofs.Waiting.{none_more, length_more, up_to}
 
 -- so many receives brought no answer
@@ -71,12 +71,12 @@ behind : (ask : Traffic) (host : HostId) (was mid now : Option (List Traffic)) (
 behind ask host was mid now result sent heard = (heard.0, extends_then was mid now (ask ∷ []) (map inbound heard.0) sent heard.1, heard.2)
 
 -- the ask went out, and the wait ended so
-pub exchanged : (port : ℕ) (e : Errand) (script : List ℕ) (wire : Wired) (mid : Option (List Traffic)) (result : Result (Option Answer) WaitStop)
-    → Extends wire.traffic mid (asked port e script ∷ []) → Hears [] e.host mid wire.traffic_now result
-    → StopsFor wire.receive_faults wire.receive_faults_now result → wire.send_faults_now ≡ wire.send_faults → Exchanges port e script wire result
-exchanged port e script wire mid (Ok answer) sent heard cause went = (behind _ e.host wire.traffic mid _ (Ok answer) sent heard, (cause, went))
-exchanged port e script wire mid (Err stop.Fault) sent heard cause went =
-    inr (behind _ e.host wire.traffic mid _ (Err stop.Fault) sent heard, cause.1, went)
-exchanged port e script wire mid (Err (stop.Unread unread)) sent heard cause went =
-    (behind _ e.host wire.traffic mid _ (Err (stop.Unread unread)) sent heard, (cause, went))
-exchanged port e script wire mid (Err (stop.Memory memory)) sent heard cause went = absurd heard.2
+pub exchanged : (port : ℕ) (host : HostId) (e : Asking) (script : List ℕ) (wire : Wired) (mid : Option (List Traffic)) (result : Result (Option Answer) WaitStop)
+    → Extends wire.traffic mid (asked port host e script ∷ []) → Hears [] host mid wire.traffic_now result
+    → StopsFor wire.receive_faults wire.receive_faults_now result → wire.send_faults_now ≡ wire.send_faults → Exchanges port host e script wire result
+exchanged port host e script wire mid (Ok answer) sent heard cause went = (behind _ host wire.traffic mid _ (Ok answer) sent heard, (cause, went))
+exchanged port host e script wire mid (Err stop.Fault) sent heard cause went =
+    inr (behind _ host wire.traffic mid _ (Err stop.Fault) sent heard, cause.1, went)
+exchanged port host e script wire mid (Err (stop.Unread unread)) sent heard cause went =
+    (behind _ host wire.traffic mid _ (Err (stop.Unread unread)) sent heard, (cause, went))
+exchanged port host e script wire mid (Err (stop.Memory memory)) sent heard cause went = absurd heard.2

@@ -1,5 +1,5 @@
 -- A job's end is told.
-use Rattle.std.proofs.Common.{◌≡◌, inl, ℕ, List, [], ◌∷◌, refl, subst}
+use Rattle.std.proofs.Common.{◌≡◌, ℕ, List, [], ◌∷◌, refl, subst}
 use Rattle.std.specs.declared.option.Option.{Option}
 use Rattle.nqs_types.specs.declared.ids.HostId.{HostId}
 use Rattle.nqs_types.specs.declared.ids.RequestId.{RequestId}
@@ -23,4 +23,4 @@ module _ (host : HostId) (port : ℕ) (id : RequestId) (start : ℕ) (end : Opti
       (end, ran_once, subst (λ t. Waits (acknowledges host id start) (packet (Host host) t) was now result) spelled waits)
 
   pub shepherds_unsent : (was : Option (List Traffic)) (memory : wanting.Memory) → Shepherds host port id start runs runs' was was (Memory memory)
-  shepherds_unsent was memory = (end, ran_once, ([], extends_none was, inl refl))
+  shepherds_unsent was memory = (end, ran_once, ([], extends_none was, refl))

@@ -85,7 +85,7 @@ waits_stopped test told was mid now n stop.Fault few so_far came =
 waits_stopped test told was mid now n (stop.Unread unread) few so_far (a, came) = (
   so_far.0 ++ a ∷ [],
   alone was now _ (round told was mid now so_far.0 a so_far.1 came),
-  inr (a, up_to test so_far.0 a n few so_far.2 so_far.3),
+  (a, up_to test so_far.0 a n few so_far.2 so_far.3),
 )
 waits_stopped test told was mid now n (stop.Memory memory) few so_far never = absurd never
 

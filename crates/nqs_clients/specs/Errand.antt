@@ -1,20 +1,15 @@
--- What the words of a client ask for.
+-- What the words of a client ask for: the tool, the user, and the tool's own words.
 use Rattle.std.specs.Prelude.{◌≡◌, ℕ, ◌+◌, Bool, nat_le, List, [], ◌∷◌, ◌++◌, codes, length, if◌then◌else◌, Ok, Err}
-use Rattle.std.specs.List.{position, sum_by, flat_map}
+use Rattle.std.specs.List.{sum_by, flat_map}
 use Rattle.std.specs.Option.{option_map}
 use Rattle.std.specs.declared.option.Option.{Option}
 use Rattle.std.specs.declared.option.Option.TheVariants.{None, Some}
 use Rattle.std.specs.declared.result.Result.{Result}
 use Rattle.nqs_base.specs.Same.{name_eq}
-use Rattle.nqs_base.specs.Name.{IsName}
-use Rattle.nqs_types.specs.declared.ids.HostId.{HostId}
 use Rattle.nqs_types.specs.declared.message.Tool.{Tool}
 use Rattle.nqs_types.specs.declared.message.Tool.TheVariants.{Qsub, Qstat, Qdel, Qmgr, Tick}
-use Rattle.nqs_rules.specs.Find.{host_at}
 use Rattle.nqs_words.specs.Values.{name_of}
-use Rattle.nqs_records.specs.Values.{IsHost}
-use Rattle.nqs_packets.specs.Values.{AreWords}
-use Rattle.nqs_clients.specs.declared.errand.Errand.{Errand}
+use Rattle.nqs_clients.specs.Asking.{Asking, asking}
 use Rattle.nqs_clients.specs.declared.errand.WordsStop.{WordsStop}
 use Rattle.nqs_clients.specs.declared.errand.WordsStop.TheVariants.{BadWords, Memory}
 
@@ -45,30 +40,18 @@ words_of Tick (word ∷ own) = None
 abbrev pub are_short : List (List ℕ) → Bool
 are_short own = nat_le (sum_by (λ w. length w + 4) own) 4000
 
--- an errand, made of its parts: the host, the user, the tool and its words
-abbrev pub errand : HostId → List ℕ → Tool → List (List ℕ) → Errand
-errand host user tool words = record { host = host; user = user; tool = tool; words = words }
+-- what is asked is made of its parts, where they are all there
+abbrev pub made_of : Option Tool → Option (List ℕ) → List (List ℕ) → Option Asking
+made_of (Some tool) (Some user) own = option_map (asking user tool) (words_of tool own)
+made_of _ _ own = None
 
--- an errand is made of its parts, where they are all there
-abbrev pub made_of : Option Tool → Option ℕ → Option (List ℕ) → List (List ℕ) → Option Errand
-made_of (Some tool) (Some place) (Some user) own = option_map (errand (host_at place) user tool) (words_of tool own)
-made_of _ _ _ own = None
-
--- the host of the site that has this name
-abbrev pub place_of : List (List ℕ) → List ℕ → Option ℕ
-place_of site host = position (λ name. name_eq name host) site
-
--- The words are the tool, the host, the user, and the tool's own words.
-unfoldable pub errand_of : List (List ℕ) → List (List ℕ) → Option Errand
-errand_of site (tool ∷ host ∷ user ∷ own) = if are_short own then made_of (tool_of tool) (place_of site host) (name_of user) own else None
-errand_of site _ = None
+-- The words behind the tool are the user and the tool's own.
+unfoldable pub errand_of : List ℕ → List (List ℕ) → Option Asking
+errand_of tool [] = None
+errand_of tool (user ∷ own) = if are_short own then made_of (tool_of tool) (name_of user) own else None
 
 -- what reading the words answers; the cases exclude each other, but that memory may be wanting
-abbrev pub ReadsErrand : List (List ℕ) → List (List ℕ) → Result Errand WordsStop → Type 0
-ReadsErrand site words (Ok e) = errand_of site words ≡ Some e
-ReadsErrand site words (Err BadWords) = errand_of site words ≡ None
-ReadsErrand site words (Err (Memory memory)) = Unit {0}
-
--- the errand's values may be sent
-abbrev pub MayAsk : Errand → Type 0
-MayAsk e = IsHost e.host × IsName e.user × AreWords e.tool e.words
+abbrev pub ReadsErrand : List ℕ → List (List ℕ) → Result Asking WordsStop → Type 0
+ReadsErrand tool words (Ok e) = errand_of tool words ≡ Some e
+ReadsErrand tool words (Err BadWords) = errand_of tool words ≡ None
+ReadsErrand tool words (Err (Memory memory)) = Unit {0}

@@ -12,19 +12,19 @@ use Rattle.nqs_types.specs.declared.message.Message.{Message}
 use Rattle.nqs_outside.specs.Asked.{Arrival, Traffic, inbound, outbound}
 use Rattle.nqs_outside.specs.Causes.{Rose}
 use Rattle.nqs_outside.specs.Told.{Extends}
+use Rattle.nqs_clients.specs.Asking.{Asking}
 use Rattle.nqs_clients.specs.Datagrams.{message_in, datagram, UpTo}
 use Rattle.nqs_clients.specs.Sides.{Wired, IsSilent, NoneFailed}
 use Rattle.nqs_clients.specs.declared.answer.Answer.{Answer}
 use Rattle.nqs_clients.specs.declared.datagram.WaitStop.{WaitStop}
 use Rattle.nqs_clients.specs.declared.datagram.WaitStop.TheVariants.{Fault, Unread, Memory}
-use Rattle.nqs_clients.specs.declared.errand.Errand.{Errand}
 
 -- the number by which a client knows the answer to what it asked
 abbrev pub token : ℕ
 token = 5
 
 -- what the host is asked
-abbrev pub ask_of : ℕ → Errand → List ℕ → Body
+abbrev pub ask_of : ℕ → Asking → List ℕ → Body
 ask_of port e script = body.Ask port token e.user e.tool e.words script
 
 -- the answer with the token
@@ -46,8 +46,8 @@ abbrev pub answers : HostId → Arrival → Bool
 answers host arrival = is_some (answer_in host arrival)
 
 -- the datagram that asks
-abbrev pub asked : ℕ → Errand → List ℕ → Traffic
-asked port e script = outbound (datagram e.host (ask_of port e script))
+abbrev pub asked : ℕ → HostId → Asking → List ℕ → Traffic
+asked port host e script = outbound (datagram host (ask_of port e script))
 
 -- At most ten receives were made, up to the first that brought the answer. One that was read is
 -- given: memory may be wanting to read the last that came, and for nothing else.
@@ -63,23 +63,23 @@ abbrev pub Hears : List Traffic → HostId → Option (List Traffic) → Option 
 Hears sends host was now result = (arrivals : List Arrival) × Extends was now (sends ++ map inbound arrivals) × Awaits host arrivals result
 
 -- the ask was sent, then the wait was made, and it ended so
-abbrev pub Asks : ℕ → Errand → List ℕ → Wired → Result (Option Answer) WaitStop → Type 0
-Asks port e script wire result = Hears (asked port e script ∷ []) e.host wire.traffic wire.traffic_now result
+abbrev pub Asks : ℕ → HostId → Asking → List ℕ → Wired → Result (Option Answer) WaitStop → Type 0
+Asks port host e script wire result = Hears (asked port host e script ∷ []) host wire.traffic wire.traffic_now result
 
 -- the send failed, and nothing was received
-abbrev pub SendFailed : ℕ → Errand → List ℕ → Wired → Type 0
-SendFailed port e script wire = Extends wire.traffic wire.traffic_now (asked port e script ∷ []) × Rose wire.send_faults wire.send_faults_now
+abbrev pub SendFailed : ℕ → HostId → Asking → List ℕ → Wired → Type 0
+SendFailed port host e script wire = Extends wire.traffic wire.traffic_now (asked port host e script ∷ []) × Rose wire.send_faults wire.send_faults_now
     × (wire.receive_faults_now ≡ wire.receive_faults)
 
 -- the ask went out, and a receive failed
-abbrev pub ReceiveFailed : ℕ → Errand → List ℕ → Wired → Type 0
-ReceiveFailed port e script wire = Asks port e script wire (Err Fault) × Rose wire.receive_faults wire.receive_faults_now
+abbrev pub ReceiveFailed : ℕ → HostId → Asking → List ℕ → Wired → Type 0
+ReceiveFailed port host e script wire = Asks port host e script wire (Err Fault) × Rose wire.receive_faults wire.receive_faults_now
     × (wire.send_faults_now ≡ wire.send_faults)
 
 -- The ask went out, and this is what came of it; or a call of the wire failed, or there was no
 -- memory for the ask.
-abbrev pub Exchanges : ℕ → Errand → List ℕ → Wired → Result (Option Answer) WaitStop → Type 0
-Exchanges port e script wire (Ok answer) = Asks port e script wire (Ok answer) × NoneFailed wire
-Exchanges port e script wire (Err Fault) = SendFailed port e script wire ⊎ ReceiveFailed port e script wire
-Exchanges port e script wire (Err (Unread unread)) = Asks port e script wire (Err (Unread unread)) × NoneFailed wire
-Exchanges port e script wire (Err (Memory memory)) = IsSilent wire
+abbrev pub Exchanges : ℕ → HostId → Asking → List ℕ → Wired → Result (Option Answer) WaitStop → Type 0
+Exchanges port host e script wire (Ok answer) = Asks port host e script wire (Ok answer) × NoneFailed wire
+Exchanges port host e script wire (Err Fault) = SendFailed port host e script wire ⊎ ReceiveFailed port host e script wire
+Exchanges port host e script wire (Err (Unread unread)) = Asks port host e script wire (Err (Unread unread)) × NoneFailed wire
+Exchanges port host e script wire (Err (Memory memory)) = IsSilent wire

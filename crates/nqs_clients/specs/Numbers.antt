@@ -2,7 +2,7 @@
 use Rattle.std.specs.Prelude.{ℕ}
 use Rattle.nqs_clients.specs.declared.status.NqsStatus.{NqsStatus}
 use Rattle.nqs_clients.specs.declared.status.NqsStatus.TheVariants.{Done, Refused, BadWords, NotNqs, ReadFault, WriteFault, Memory, NoAnswer, WireFault}
-use Rattle.nqs_clients.specs.declared.status.NqsStatus.TheVariants.{DiskFault, TurnsUsed, MachineFault, Exists}
+use Rattle.nqs_clients.specs.declared.status.NqsStatus.TheVariants.{DiskFault, TurnsUsed, MachineFault, Exists, Unread}
 
 -- the number with which a program exits at a status
 abbrev pub number_of : NqsStatus → ℕ
@@ -13,6 +13,7 @@ number_of NotNqs = 3
 number_of ReadFault = 4
 number_of WriteFault = 5
 number_of (Memory memory) = 6
+number_of (Unread unread) = 6
 number_of NoAnswer = 7
 number_of WireFault = 8
 number_of DiskFault = 9

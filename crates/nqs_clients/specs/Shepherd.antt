@@ -1,5 +1,5 @@
 -- What a shepherd sends, and how its wait ends.
-use Rattle.std.specs.Prelude.{◌≡◌, ℕ, ◌≤◌, ◌⊎◌, Bool, true, false, ◌&&◌, ◌==◌, List, [], ◌∷◌, ◌++◌, length, take}
+use Rattle.std.specs.Prelude.{◌≡◌, ℕ, ◌≤◌, Bool, true, false, ◌&&◌, ◌==◌, List, [], ◌∷◌, ◌++◌, length, take}
 use Rattle.std.specs.List.{list_any, flat_map}
 use Rattle.std.specs.declared.option.Option.{Option}
 use Rattle.std.specs.declared.option.Option.TheVariants.{None, Some}
@@ -17,7 +17,7 @@ use Rattle.nqs_clients.specs.Datagrams.{message_in, datagram, UpTo}
 use Rattle.nqs_clients.specs.declared.datagram.WaitStop.{WaitStop}
 use Rattle.nqs_clients.specs.declared.datagram.WaitStop.TheVariants as stop
 use Rattle.nqs_clients.specs.declared.shepherding.ShepherdEnd.{ShepherdEnd}
-use Rattle.nqs_clients.specs.declared.shepherding.ShepherdEnd.TheVariants.{Told, NoAnswer, WireFault, Memory}
+use Rattle.nqs_clients.specs.declared.shepherding.ShepherdEnd.TheVariants.{Told, NoAnswer, WireFault, Unread, Memory}
 
 -- what is told of a job that ended so: its outputs as far as their first 16,384 bytes, and status
 -- 127 where it was not run
@@ -42,7 +42,7 @@ acknowledges host id start arrival = is_ack host id start (message_in arrival)
 -- how a wait ends that stopped
 abbrev pub stopped : WaitStop → ShepherdEnd
 stopped stop.Fault = WireFault
-stopped (stop.Unread unread) = Memory unread.memory
+stopped (stop.Unread unread) = Unread unread
 stopped (stop.Memory memory) = Memory memory
 
 -- the datagram was sent before each receive, and this came
@@ -55,12 +55,14 @@ unanswered told WireFault = outbound told ∷ []
 unanswered told _ = []
 
 -- The wait ended so, by what came: with the first acknowledgement, or after ten receives that
--- brought none. Memory may be wanting for the datagram, or to read the last that came.
+-- brought none. Memory may be wanting to read the last that came; or for the datagram, and then
+-- nothing came.
 abbrev pub EndsBy : (Arrival → Bool) → List Arrival → ShepherdEnd → Type 0
 EndsBy test arrivals Told = (last : Arrival) × UpTo test arrivals last × (test last ≡ true)
 EndsBy test arrivals NoAnswer = (length arrivals ≡ 10) × (list_any test arrivals ≡ false)
 EndsBy test arrivals WireFault = (length arrivals ≤ 9) × (list_any test arrivals ≡ false)
-EndsBy test arrivals (Memory memory) = (arrivals ≡ []) ⊎ ((last : Arrival) × UpTo test arrivals last)
+EndsBy test arrivals (Unread unread) = (last : Arrival) × UpTo test arrivals last
+EndsBy test arrivals (Memory memory) = arrivals ≡ []
 
 -- These came, the datagram was sent once before each receive, and the wait ended so.
 abbrev pub Waits : (Arrival → Bool) → Packet → Option (List Traffic) → Option (List Traffic) → ShepherdEnd → Type 0

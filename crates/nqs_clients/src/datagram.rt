@@ -18,18 +18,9 @@ const ROOM: usize = 49_153;
 
 /// There was no memory to read a datagram. Only the reader makes one, so that what was read is
 /// never given up for want of memory.
-#[derive(Drop)]
+#[derive(Debug, PartialEq, Eq, Drop)]
 pub struct Unread {
     memory: Memory,
-}
-
-impl Unread {
-    /// The memory that was wanting.
-    pub(crate) fn into_memory(self) -> Memory
-        ensures { result ≡ self.memory }
-    {
-        self.memory
-    }
 }
 
 /// Why a wait ended before its time.

@@ -1,21 +1,54 @@
-//! The words of a client: the tool, the host, the user, and the tool's own words.
+//! What the words of a client ask for: the tool, the user, and the tool's own words.
 
-ghost use Rattle.std.specs.Prelude.{◌≡◌, ◌+◌, ◌∷◌, ◌++◌, [], true, OnOk, ◌≤◌, ◌<◌, nat_le, length, map, string_bytes, IfOk, IfSome};
+ghost use Rattle.std.specs.Prelude.{◌≡◌, ◌+◌, ◌∷◌, ◌++◌, [], true, OnOk, nat_le, length, map, string_bytes, IfOk};
 ghost use Rattle.std.specs.List.{sum_by, flat_map};
-ghost use Rattle.nqs_clients.specs.Errand.{tool_of, joined, words_of, are_short, made_of, place_of, errand_of, ReadsErrand, MayAsk};
+ghost use Rattle.nqs_packets.specs.Values.{AreWords};
+ghost use Rattle.nqs_clients.specs.Errand.{tool_of, joined, words_of, are_short, made_of, errand_of, ReadsErrand};
 
 use nqs_base::{Bytes, Items, Memory, Name};
-use nqs_types::{HostId, Tool};
+use nqs_types::Tool;
 use nqs_words::name_of;
 use std::alloc::Global;
+use std::marker::Model;
 
-/// What the words ask for: which host is asked, for whom, and the tool's words as they are sent.
+/// What a host is asked: for whom, by which tool, and the tool's words as they are sent. They may
+/// be sent.
 #[derive(Drop)]
 pub struct Errand {
-    pub host: HostId,
-    pub user: Name,
-    pub tool: Tool,
-    pub words: Items<Bytes>,
+    user: Name,
+    tool: Tool,
+    words: Items<Bytes>,
+}
+
+impl Model for Errand {
+    ghost use Rattle.nqs_packets.specs.Values.{AreWords};
+    ghost use Rattle.nqs_clients.specs.Asking.{Asking, asking};
+
+    ghost Value = { Asking };
+
+    ghost view = { λ e. asking e.user e.tool e.words };
+
+    ghost invariant = { λ e. AreWords e.tool e.words };
+}
+
+impl Errand {
+    /// The tool.
+    pub(crate) fn tool(&self) -> Tool
+        ensures { result ≡ self.now.tool }
+    {
+        self.tool
+    }
+
+    /// The user, the tool and its words.
+    pub(crate) fn into_parts(self) -> (Name, Tool, Items<Bytes>)
+        ensures user { result.0 ≡ self.user }
+        ensures tool { result.1 ≡ self.tool }
+        ensures words { result.2 ≡ self.words }
+        ensures may { AreWords result.1 result.2 }
+    {
+        let Errand { user, tool, words } = self;
+        (user, tool, words)
+    }
 }
 
 /// Why the words ask for nothing.
@@ -122,52 +155,31 @@ fn tool_of(word: &[u8]) -> Option<Tool>
     None
 }
 
-fn place_of(site: &[Name], host: &[u8]) -> Option<usize>
-    ensures place { result ≡ place_of site.now host.now }
-    ensures bound { IfSome result (λ place. place < length site.now) }
-{
-    site.iter().position(|name| name.as_bytes() == host)
-}
-
 // The errand of these parts, where they are all there.
 fn made_of(
     alloc: Global,
     tool: Option<Tool>,
-    place: Option<usize>,
     user: Option<Name>,
     own: Items<Bytes>,
 ) -> Result<Option<Errand>, Memory>
-    requires bound { IfSome place (λ p. p < 16) }
-    requires short { are_short own ≡ true }
-    ensures errand { IfOk result (λ errand. errand ≡ made_of tool place user own) }
-    ensures may { IfOk result (λ errand. IfSome errand (λ e. MayAsk e)) }
+    requires { are_short own ≡ true }
+    ensures { IfOk result (λ errand. errand ≡ made_of tool user own) }
 {
-    let (Some(tool), Some(place), Some(user)) = (tool, place, user) else {
+    let (Some(tool), Some(user)) = (tool, user) else {
         return Ok(None);
     };
     match words_of(alloc, tool, own)? {
-        Some(words) => Ok(Some(Errand {
-            host: HostId(place as u8),
-            user,
-            tool,
-            words,
-        })),
+        Some(words) => Ok(Some(Errand { user, tool, words })),
         None => Ok(None),
     }
 }
 
-/// What the words ask for.
+/// What the words behind a tool ask for: the user, and the tool's own words.
 #[tactic(auto, unfolding(crate::specs::Errand::errand_of))]
-pub(crate) fn read_words(
-    alloc: Global,
-    site: &[Name],
-    words: &[String],
-) -> Result<Errand, WordsStop>
-    requires { length site.now ≤ 16 }
-    ensures errand { ReadsErrand site.now (map (λ s. string_bytes s) words.now) result }
-    ensures may { IfOk result (λ errand. MayAsk errand) }
+pub fn read_errand(alloc: Global, tool: &str, words: &[String]) -> Result<Errand, WordsStop>
+    ensures { ReadsErrand tool.now (map (λ s. string_bytes s) words.now) result }
 {
-    let [tool, host, user, own @ ..] = words else {
+    let Some((user, own)) = words.split_first() else {
         return Err(WordsStop::BadWords);
     };
     let own = match copies(alloc, own) {
@@ -178,9 +190,8 @@ pub(crate) fn read_words(
         return Err(WordsStop::BadWords);
     }
     let tool = tool_of(tool.as_bytes());
-    let place = place_of(site, host.as_bytes());
     let user = name_of(user.as_bytes());
-    match made_of(alloc, tool, place, user, own) {
+    match made_of(alloc, tool, user, own) {
         Ok(Some(errand)) => Ok(errand),
         Ok(None) => Err(WordsStop::BadWords),
         Err(memory) => Err(WordsStop::Memory(memory)),

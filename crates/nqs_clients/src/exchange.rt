@@ -3,14 +3,14 @@
 ghost use Rattle.std.specs.Prelude.{◌≡◌, ◌≤◌, length, [], IfOk};
 ghost use Rattle.nqs_packets.specs.Spelling.{spelling};
 ghost use Rattle.nqs_clients.specs.Datagrams.{at_home, Receives, StopsFor};
-ghost use Rattle.nqs_clients.specs.Errand.{MayAsk};
+ghost use Rattle.nqs_records.specs.Values.{IsHost};
 ghost use Rattle.nqs_clients.specs.Exchange.{ask_of, answer_of, answer_in, Hears, Exchanges};
 ghost use Rattle.nqs_clients.specs.Sides.{wired};
 
 use crate::answer::Answer;
 use crate::datagram::{WaitStop, receive_message, spelled};
 use crate::errand::Errand;
-use nqs_base::{Bytes, Memory};
+use nqs_base::{Bytes, Memory, name_stands};
 use nqs_outside::{Address, Wire};
 use nqs_types::{Body, HostId, Message};
 use std::alloc::Global;
@@ -19,17 +19,19 @@ use std::alloc::Global;
 const TOKEN: u64 = 5;
 
 // The bytes of what the host is asked.
-fn spelled_ask(alloc: Global, port: u16, errand: Errand, script: Vec<u8>) -> Result<Vec<u8>, Memory>
-    requires may { MayAsk errand }
+fn spelled_ask(
+    alloc: Global,
+    port: u16,
+    host: HostId,
+    errand: Errand,
+    script: Vec<u8>,
+) -> Result<Vec<u8>, Memory>
+    requires host { IsHost host }
     requires short { length script.items ≤ 32768 }
-    ensures { IfOk result (λ bytes. bytes.items ≡ spelling (at_home errand.host (ask_of port errand script.items))) }
+    ensures { IfOk result (λ bytes. bytes.items ≡ spelling (at_home host (ask_of port errand script.items))) }
 {
-    let Errand {
-        host,
-        user,
-        tool,
-        words,
-    } = errand;
+    let (user, tool, words) = errand.into_parts();
+    name_stands(&user);
     let message = Message {
         from: host,
         to: host,
@@ -105,16 +107,16 @@ fn await_answer<W: Wire>(
 pub(crate) fn exchange<W: Wire>(
     alloc: Global,
     port: u16,
+    host: HostId,
     errand: Errand,
     script: Vec<u8>,
     wire: &mut W,
 ) -> Result<Option<Answer>, WaitStop>
-    requires may { MayAsk errand }
+    requires host { IsHost host }
     requires short { length script.items ≤ 32768 }
-    ensures { Exchanges port errand script.items (wired W.traffic W.receive_faults W.send_faults wire.old wire.new) result }
+    ensures { Exchanges port host errand script.items (wired W.traffic W.receive_faults W.send_faults wire.old wire.new) result }
 {
-    let host = errand.host;
-    let asked = match spelled_ask(alloc, port, errand, script) {
+    let asked = match spelled_ask(alloc, port, host, errand, script) {
         Ok(asked) => asked,
         Err(memory) => return Err(WaitStop::Memory(memory)),
     };

@@ -12,5 +12,7 @@ mod shepherding;
 mod status;
 
 pub use asking::client;
+pub use datagram::Unread;
+pub use errand::{Errand, WordsStop, read_errand};
 pub use shepherding::{ShepherdEnd, shepherd};
 pub use status::NqsStatus;

@@ -11,7 +11,7 @@ ghost use Rattle.nqs_packets.specs.Values.{IsShort, IsBody};
 ghost use Rattle.nqs_clients.specs.Datagrams.{at_home, Receives, StopsFor};
 ghost use Rattle.nqs_clients.specs.Shepherd.{ended, is_ack, acknowledges, stopped, EndsWith, Waits, Shepherds};
 
-use crate::datagram::{WaitStop, receive_message, spelled};
+use crate::datagram::{Unread, WaitStop, receive_message, spelled};
 use nqs_base::{Bytes, Memory, Name};
 use nqs_outside::{Address, Failed, RunEnd, Runner, Wire};
 use nqs_types::{Body, HostId, Message, RequestId};
@@ -32,7 +32,9 @@ pub enum ShepherdEnd {
     NoAnswer,
     /// A receive failed.
     WireFault,
-    /// Memory ran out.
+    /// There was no memory to read what came last.
+    Unread(Unread),
+    /// There was no memory for the datagram, and nothing was sent or received.
     Memory(Memory),
 }
 
@@ -121,7 +123,7 @@ fn end_of(stop: WaitStop) -> ShepherdEnd
 {
     match stop {
         WaitStop::Fault => ShepherdEnd::WireFault,
-        WaitStop::Unread(unread) => ShepherdEnd::Memory(unread.into_memory()),
+        WaitStop::Unread(unread) => ShepherdEnd::Unread(unread),
         WaitStop::Memory(memory) => ShepherdEnd::Memory(memory),
     }
 }

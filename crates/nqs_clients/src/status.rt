@@ -1,5 +1,6 @@
 //! How a run of the program ends.
 
+use crate::datagram::Unread;
 use nqs_base::Memory;
 
 /// How a run of the program ends. Each status has a number, with which the program exits.
@@ -17,8 +18,10 @@ pub enum NqsStatus {
     ReadFault,
     /// The sink failed, or took nothing of a piece. A front of the text was written.
     WriteFault,
-    /// Memory ran out. Nothing was written.
+    /// Memory ran out. Nothing was written, and no client or shepherd has received anything.
     Memory(Memory),
+    /// There was no memory to read what came last. Nothing was written.
+    Unread(Unread),
     /// No answer came.
     NoAnswer,
     /// The wire failed.
@@ -48,7 +51,7 @@ impl NqsStatus {
             NqsStatus::NotNqs => 3,
             NqsStatus::ReadFault => 4,
             NqsStatus::WriteFault => 5,
-            NqsStatus::Memory(_) => 6,
+            NqsStatus::Memory(_) | NqsStatus::Unread(_) => 6,
             NqsStatus::NoAnswer => 7,
             NqsStatus::WireFault => 8,
             NqsStatus::DiskFault => 9,

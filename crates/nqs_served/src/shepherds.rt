@@ -5,7 +5,7 @@ use crate::outside::{Failing, NONE, outside_of};
 use crate::text::{put, put_calls, put_quoted, put_text};
 use crate::trouble::Trouble;
 use nqs_base::{Bytes, Items, Name};
-use nqs_clients::{NqsStatus, ShepherdEnd, client, shepherd};
+use nqs_clients::{NqsStatus, ShepherdEnd, client, read_errand, shepherd};
 use nqs_fakes::{MemRunner, MemWire};
 use nqs_outside::{MemSink, MemSource, RunEnd};
 use nqs_types::{HostId, RequestId};
@@ -115,7 +115,7 @@ fn words_of(end: ShepherdEnd) -> &'static str {
         ShepherdEnd::Told => "told",
         ShepherdEnd::NoAnswer => "no answer",
         ShepherdEnd::WireFault => "wire fault",
-        ShepherdEnd::Memory(_) => "memory",
+        ShepherdEnd::Unread(_) | ShepherdEnd::Memory(_) => "memory",
     }
 }
 
@@ -162,11 +162,12 @@ static ANSWERS: [&[u8]; 3] = [
     ],
 ];
 
-// The words of a client, and the calls of its wire, of its input and of its output that fail. The
+// The tool of a client and its user, and the calls of its wire, of its input and of its output that fail. The
 // output takes so many bytes at a call.
 #[derive(Clone, Copy)]
 struct Asking {
     title: &'static str,
+    tool: &'static str,
     words: &'static [&'static str],
     failing: Failing,
     reads: &'static [u64],
@@ -176,7 +177,8 @@ struct Asking {
 
 const ASKED: Asking = Asking {
     title: "the third answer is its own",
-    words: &["qstat", "beta", "ann"],
+    tool: "qstat",
+    words: &["ann"],
     failing: NONE,
     reads: &[],
     piece: 100,
@@ -185,7 +187,7 @@ const ASKED: Asking = Asking {
 
 const SUBMITTED: Asking = Asking {
     title: "a script is sent",
-    words: &["qsub", "beta", "ann"],
+    tool: "qsub",
     ..ASKED
 };
 
@@ -267,8 +269,10 @@ fn ask(
 ) -> Result<NqsStatus, Trouble> {
     let words = words_in(alloc, asking.words)?;
     let mut input = script_of(alloc, asking)?;
-    let site = [alpha(), beta()];
-    Ok(client(alloc, &site, &words, 9, wire, &mut input, sink))
+    match read_errand(alloc, asking.tool, &words) {
+        Ok(errand) => Ok(client(alloc, HostId(1), errand, 9, wire, &mut input, sink)),
+        Err(_) => Ok(NqsStatus::BadWords),
+    }
 }
 
 fn put_asked(

@@ -12,7 +12,8 @@ use Rattle.nqs_serve.specs.Moments.{TellsThroughout, IsPassed}
 use Rattle.nqs_serve.specs.Nodes.{IsAt}
 use Rattle.nqs_serve.specs.Keeping.{KeptBehind}
 use Rattle.nqs_serve.specs.Runs.{idle, Ran, run_calls}
-use Rattle.nqs_cli.specs.Daemons.{Outside, told_of, telling_of, here_of, Leaves, KeptSince}
+use Rattle.nqs_cli.specs.Daemons.{telling_of, here_of, Leaves, KeptSince}
+use Rattle.nqs_cli.specs.Parts.{Outside, daemon_told}
 use Rattle.nqs_cli.proofs.Serving.{leaves, kept_since, ends_as, since_boot, not_booted, has_served}
 use Rattle.nqs_cli.proofs.daemon.boot_and_serve.Goals as goal
 
@@ -27,10 +28,8 @@ serve-end-requires-clause-running g c = let loaded = c.requires.loaded in (c.in-
 
 pub returns-in-Err : goal.returns-in-Err
 returns-in-Err g c = λ me names disks loaded here.
-    let was : Outside = told_of g.D.Disk g.W.Wire g.L.Launcher g.P.Printer g.O.Outlet g.C.Clock disks
-    c.args.wire.now c.args.launcher.now c.args.printer.now c.args.outlet.now c.args.clock.now in
-    let now : Outside = told_of g.D.Disk g.W.Wire g.L.Launcher g.P.Printer g.O.Outlet g.C.Clock c.in-Err.disks
-    c.args.wire.now c.args.launcher.now c.args.printer.now c.args.outlet.now c.args.clock.now in
+    let was : Outside = daemon_told g.D.Disk g.W.Wire g.L.Launcher g.P.Printer g.O.Outlet g.C.Clock disks c.args.around.now in
+    let now : Outside = daemon_told g.D.Disk g.W.Wire g.L.Launcher g.P.Printer g.O.Outlet g.C.Clock c.in-Err.disks c.args.around.now in
     let unbooted = c.in-Err.ensures.unbooted disks loaded in
     not_booted g.D.Disk.tells me names c.args.turns was now c.in-Err.fault c.status_of_fault.result c.status_of_fault.ensures (refl, refl)
     unbooted.failed
@@ -40,10 +39,14 @@ returns-in-Err g c = λ me names disks loaded here.
 
 pub returns : goal.returns
 returns g c = λ me names disks loaded here.
-    let was : Outside = told_of g.D.Disk g.W.Wire g.L.Launcher g.P.Printer g.O.Outlet g.C.Clock disks
-    c.args.wire.now c.args.launcher.now c.args.printer.now c.args.outlet.now c.args.clock.now in
-    let now : Outside = told_of g.D.Disk g.W.Wire g.L.Launcher g.P.Printer g.O.Outlet g.C.Clock c.close.result
-    c.serve-end.new.wire c.serve-end.new.launcher c.serve-end.new.printer c.serve-end.new.outlet c.serve-end.new.clock in
+    let was : Outside = daemon_told g.D.Disk g.W.Wire g.L.Launcher g.P.Printer g.O.Outlet g.C.Clock disks c.args.around.now in
+    let now : Outside = daemon_told g.D.Disk g.W.Wire g.L.Launcher g.P.Printer g.O.Outlet g.C.Clock c.close.result (record {
+      wire = c.serve-end.new.wire;
+      launcher = c.serve-end.new.launcher;
+      printer = c.serve-end.new.printer;
+      outlet = c.serve-end.new.outlet;
+      clock = c.serve-end.new.clock;
+    }) in
     let booted = c.in-Ok.ensures.booted disks loaded in
     has_served g.D.Disk.tells me names c.args.turns was now c.serve-end.result c.status_of_serve.result c.status_of_serve.ensures
     (λ yes.

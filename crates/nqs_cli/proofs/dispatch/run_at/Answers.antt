@@ -1,41 +1,41 @@
-use Rattle.std.proofs.Common.{inl, inr, ◌∷◌, [], None, refl, sym, subst, arith, map, string_bytes}
+use Rattle.std.proofs.Common.{refl, sym, subst}
 use Rattle.nqs_outside.specs.Streams.{fed, sunk}
-use Rattle.nqs_cli.specs.Parts.{disks_of, wire_of}
-use Rattle.nqs_cli.specs.Runs.{Place, DoesOrWants}
+use Rattle.nqs_cli.specs.Runs.{DoesOrWants, Uses, place_at, seen}
 use Rattle.nqs_cli.specs.declared.form.Form.{Form}
-use Rattle.nqs_cli.proofs.Lent.{no_disks, no_wire}
+use Rattle.nqs_cli.proofs.Using.{uses_as, untouched}
 use Rattle.nqs_cli.proofs.dispatch.run_at.Goals as goal
 
-pub returns-in-Format-clause-parts : goal.returns-in-Format-clause-parts
-returns-in-Format-clause-parts g c =
-    let at : Place = record { dir = c.args.dir.now; names = c.args.site.now; me = c.args.host } in
-    let did = c.format.ensures.parts in
-    let source = fed g.S.Source.left g.S.Source.faults c.args.input.now c.args.input.now in
-    let sink = sunk g.K.Sink.taken g.K.Sink.faults g.K.Sink.stalls c.args.out.now c.args.out.now in (
-      did.0,
-      did.1,
-      did.2,
-      subst (λ (f : Form). DoesOrWants g.M.D.Disk.tells at f (map (λ s. string_bytes s) c.args.words.now) source sink
-          (g.M.Machine.told c.args.machine.now).faults (g.M.Machine.told c.format.new.machine).faults did.0 c.format.result) (sym c.in-Format.is)
-          (elim did.3 [
-            | inl done ↦ inl (done, ((refl, refl), (refl, refl, refl)))
-            | inr wants ↦ inr (wants.0, ((refl, refl), (refl, refl, refl)), (disks_of at.dir at.me no_disks ∷ [], (no_disks, refl), (0, omega arith, wants.1)))
-          ]),
-    )
+pub returns-in-Format : goal.returns-in-Format
+returns-in-Format g c =
+    let was = g.M.Machine.told c.args.machine.now in
+    let now = g.M.Machine.told c.format.new.machine in
+    let e = seen g.M.D.Disk.tells was now (fed g.S.Source.left g.S.Source.faults c.args.input.now c.args.input.now)
+    (sunk g.K.Sink.taken g.K.Sink.faults g.K.Sink.stalls c.args.out.now c.args.out.now) in
+    subst (λ (f : Form). Uses was now (λ parts. DoesOrWants e (place_at c.args.station.now) f parts c.format.result)) (sym c.in-Format.is)
+    (uses_as _ _ _ _ (λ parts did. untouched e _ parts _ ((refl, refl), (refl, refl, refl)) did) c.format.ensures)
 
-pub returns-in-Client-clause-parts : goal.returns-in-Client-clause-parts
-returns-in-Client-clause-parts g c =
-    let at : Place = record { dir = c.args.dir.now; names = c.args.site.now; me = c.args.host } in
-    let did = c.ask.ensures.parts in
-    let source = fed g.S.Source.left g.S.Source.faults c.args.input.now c.ask.new.input in
-    let sink = sunk g.K.Sink.taken g.K.Sink.faults g.K.Sink.stalls c.args.out.now c.ask.new.out in (
-      did.0,
-      did.1,
-      did.2,
-      subst (λ (f : Form). DoesOrWants g.M.D.Disk.tells at f (map (λ s. string_bytes s) c.args.words.now) source sink
-          (g.M.Machine.told c.args.machine.now).faults (g.M.Machine.told c.ask.new.machine).faults did.0 c.ask.result) (sym c.in-Client.is)
-          (elim did.3 [
-            | inl done ↦ inl done
-            | inr wants ↦ inr (wants.0, wants.2, (wire_of at.dir None 0 no_wire ∷ [], (0, no_wire, refl), (0, omega arith, wants.1)))
-          ]),
-    )
+pub returns-in-Daemon : goal.returns-in-Daemon
+returns-in-Daemon g c =
+    let was = g.M.Machine.told c.args.machine.now in
+    let now = g.M.Machine.told c.daemon.new.machine in
+    let e = seen g.M.D.Disk.tells was now (fed g.S.Source.left g.S.Source.faults c.args.input.now c.args.input.now)
+    (sunk g.K.Sink.taken g.K.Sink.faults g.K.Sink.stalls c.args.out.now c.args.out.now) in
+    subst (λ (f : Form). Uses was now (λ parts. DoesOrWants e (place_at c.args.station.now) f parts c.daemon.result)) (sym c.in-Daemon.is)
+    (uses_as _ _ _ _ (λ parts did. untouched e _ parts _ ((refl, refl), (refl, refl, refl)) did) c.daemon.ensures)
+
+pub returns-in-Shepherd : goal.returns-in-Shepherd
+returns-in-Shepherd g c =
+    let was = g.M.Machine.told c.args.machine.now in
+    let now = g.M.Machine.told c.tend_named.new.machine in
+    let e = seen g.M.D.Disk.tells was now (fed g.S.Source.left g.S.Source.faults c.args.input.now c.args.input.now)
+    (sunk g.K.Sink.taken g.K.Sink.faults g.K.Sink.stalls c.args.out.now c.args.out.now) in
+    subst (λ (f : Form). Uses was now (λ parts. DoesOrWants e (place_at c.args.station.now) f parts c.tend_named.result)) (sym c.in-Shepherd.is)
+    (uses_as _ _ _ _ (λ parts did. untouched e _ parts _ ((refl, refl), (refl, refl, refl)) did) c.tend_named.ensures)
+
+pub returns-in-Client : goal.returns-in-Client
+returns-in-Client g c =
+    let was = g.M.Machine.told c.args.machine.now in
+    let now = g.M.Machine.told c.ask.new.machine in
+    let e = seen g.M.D.Disk.tells was now (fed g.S.Source.left g.S.Source.faults c.args.input.now c.ask.new.input)
+    (sunk g.K.Sink.taken g.K.Sink.faults g.K.Sink.stalls c.args.out.now c.ask.new.out) in
+    subst (λ (f : Form). Uses was now (λ parts. DoesOrWants e (place_at c.args.station.now) f parts c.ask.result)) (sym c.in-Client.is) c.ask.ensures

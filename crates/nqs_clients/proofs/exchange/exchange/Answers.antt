@@ -11,10 +11,10 @@ use Rattle.nqs_clients.proofs.exchange.exchange.Goals as goal
 
 pub returns-in-Ok-send : goal.returns-in-Ok-send
 returns-in-Ok-send g c =
-    exchanged c.args.port c.args.errand c.args.script.items
+    exchanged c.args.port c.args.host c.args.errand c.args.script.items
     (wired g.W.Wire.traffic g.W.Wire.receive_faults g.W.Wire.send_faults c.args.wire.now c.await_answer.new.wire)
     (g.W.Wire.traffic c.send.new.self) c.await_answer.result
-    (subst (λ b. Extends (g.W.Wire.traffic c.args.wire.now) (g.W.Wire.traffic c.send.new.self) (outbound (packet (Host c.args.errand.host) b) ∷ []))
+    (subst (λ b. Extends (g.W.Wire.traffic c.args.wire.now) (g.W.Wire.traffic c.send.new.self) (outbound (packet (Host c.args.host) b) ∷ []))
     (c.deref.ensures.value ∙ c.in-Ok.ensures) c.send.ensures.sends)
     c.await_answer.ensures.heard
     (stops_then {A = Option Answer} (g.W.Wire.receive_faults c.args.wire.now) (g.W.Wire.receive_faults c.send.new.self)
