@@ -5,6 +5,7 @@ ghost use Rattle.std.specs.Option.{option_copied};
 ghost use Rattle.std.specs.Fn.{FnReturnsAt};
 ghost use Rattle.nqs_state.specs.State.{content};
 ghost use Rattle.nqs_base.specs.declared.extent.Extent.{Extent};
+ghost use Rattle.nqs_types.specs.declared.request.Row.{Row as RowValue};
 ghost use Rattle.nqs_spool.specs.Spooled.{disk_of, Tells};
 ghost use Rattle.nqs_state.specs.Keys.{is_stage, is_file};
 ghost use Rattle.nqs_rules.specs.Tests.{last_u64};
@@ -23,7 +24,7 @@ use nqs_conf::is_queued_in;
 use nqs_outside::Disk;
 use nqs_routing::{find_peer, is_promise_of};
 use nqs_spool::Spool;
-use nqs_state::HostState;
+use nqs_state::{HostState, Rows};
 use nqs_types::{
     Change, ConfEdit, Edit, FileOut, HostId, OutPart, PeerNumber, Promise, RequestId, Row,
     RowState, Stage,
@@ -61,6 +62,16 @@ fn free_all<D: Disk, K: Key, V: Keyed<K> + Drop, P: Fn(&V) -> bool, F: Fn(&V) ->
             spool.free(&part(value));
         }
     }
+}
+
+// The scripts of the rows that pass the test.
+fn free_rows<D: Disk, P: Fn(&Row) -> bool>(spool: &mut Spool<D>, rows: &Rows, goes: P)
+    requires { P.IsAlwaysCallable goes }
+    ensures tells { (p : RowValue Extent → Bool) → ((v : RowValue Extent) (b : Bool) → FnReturnsAt P.Fn goes v b → b ≡ p v) → (live fewer : List Extent)
+        → Tells spool.old live → Takes live (map row_part (filter p rows.now.items)) fewer → Tells spool.new fewer }
+    ensures same { disk_of spool.new ≡ disk_of spool.old }
+{
+    free_all(spool, rows.table(), goes, |row: &Row| row.script);
 }
 
 // The extents of the parts from this place on.
@@ -160,12 +171,9 @@ fn free_purged<D: Disk>(spool: &mut Spool<D>, state: &HostState, edit: &ConfEdit
     ensures { Frees spool.old spool.new (gone (Change.Edited (Edit.Conf edit.now)) (content state.now)) }
 {
     match edit {
-        ConfEdit::PurgeQueue { queue } => free_all(
-            spool,
-            state.rows.table(),
-            |row: &Row| is_queued_in(row, queue),
-            |row: &Row| row.script,
-        ),
+        ConfEdit::PurgeQueue { queue } => {
+            free_rows(spool, &state.rows, |row: &Row| is_queued_in(row, queue));
+        }
         _ => {}
     }
 }
@@ -183,12 +191,7 @@ fn free_edited<D: Disk>(spool: &mut Spool<D>, state: &HostState, edit: &Edit)
 fn free_at_boot<D: Disk>(spool: &mut Spool<D>, state: &HostState)
     ensures { Frees spool.old spool.new (map row_part (filter goes_at_boot (content state.now).rows)) }
 {
-    free_all(
-        spool,
-        state.rows.table(),
-        goes_at_boot,
-        |row: &Row| row.script,
-    );
+    free_rows(spool, &state.rows, goes_at_boot);
 }
 
 // The promises to a host.

@@ -4,11 +4,11 @@ ghost use Rattle.std.specs.Prelude.{◌≡◌, ◌++◌, map, OnOk, IfOk};
 ghost use Rattle.std.specs.Fn.{FnReturnsAt};
 ghost use Rattle.nqs_state.specs.State.{content};
 ghost use Rattle.nqs_base.specs.declared.extent.Extent.{Extent};
-ghost use Rattle.nqs_store.specs.Live.{live};
+ghost use Rattle.nqs_store.specs.Live.{live, row_part};
 
 use nqs_base::{Extent, Key, Keyed, Memory};
 use nqs_base_tables::Table;
-use nqs_state::HostState;
+use nqs_state::{HostState, Rows};
 use nqs_types::{FileOut, Promise, Row, Stage};
 use std::alloc::Global;
 
@@ -29,12 +29,19 @@ fn add_parts<K: Key, V: Keyed<K> + Drop, F: Fn(&V) -> Extent>(
     Ok(())
 }
 
+// The scripts of a host's rows, behind those that are there.
+fn add_rows(extents: &mut Vec<Extent>, rows: &Rows) -> Result<(), Memory>
+    ensures { OnOk result (extents.new.items ≡ extents.old.items ++ map row_part rows.now.items) }
+{
+    add_parts(extents, rows.table(), |row: &Row| row.script)
+}
+
 /// The live extents of a host: those of rows, promises, stages and files, in this order.
 pub(crate) fn live_extents(alloc: Global, state: &HostState) -> Result<Vec<Extent>, Memory>
     ensures { IfOk result (λ extents. extents.items ≡ live (content state.now)) }
 {
     let mut extents = Vec::new(alloc);
-    add_parts(&mut extents, state.rows.table(), |row: &Row| row.script)?;
+    add_rows(&mut extents, &state.rows)?;
     add_parts(&mut extents, &state.promises, |promise: &Promise| {
         promise.row.script
     })?;
