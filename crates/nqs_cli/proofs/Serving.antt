@@ -32,7 +32,6 @@ use Rattle.nqs_serve.proofs.Moments.{through_made, through_then, through_as}
 use Rattle.nqs_serve.specs.declared.daemon.ServeEnd.{ServeEnd}
 use Rattle.nqs_serve.specs.declared.daemon.ServeEnd.TheVariants as end
 use Rattle.nqs_clients.specs.declared.status.NqsStatus.{NqsStatus}
-use Rattle.nqs_clients.specs.declared.status.NqsStatus.TheVariants as nqs
 use Rattle.nqs_cli.specs.Daemons.{Unseen, IsUnasked, HasFailed, IsPassedSince, HasServed, HasDiskFault, Daemons, here_of, booted}
 use Rattle.nqs_cli.specs.Ends.{status_of_fault, status_of_serve}
 use Rattle.nqs_cli.specs.Formats.{AreSame}
@@ -67,16 +66,24 @@ ends_as P Q At K L h k f lift same end.TurnsUsed turns bs t more e = (e.0, e.1, 
 ends_as P Q At K L h k f lift same end.WireFault turns bs t more e = (e.0, e.1, f t.state e.2, e.3, e.4, lift [] None e.5)
 ends_as P Q At K L h k f lift same (end.DiskFault which) turns bs t more e =
     let broke = e.0.6 in
-    let broken : IsBroken Unseen L t more h = (e.0.0, e.0.1, e.0.2, e.0.3, e.0.4, e.0.5, record {
-      done = broke.done;
-      next = broke.next;
-      left = broke.left;
-      are = broke.are;
-      at = tt;
-      out = broke.out;
-      kept = lift broke.done broke.next.change broke.kept;
-      leaves = broke.leaves;
-    }) in
+    let broken : IsBroken Unseen L t more h = (
+      e.0.0,
+      e.0.1,
+      e.0.2,
+      e.0.3,
+      e.0.4,
+      e.0.5,
+      record {
+        done = broke.done;
+        next = broke.next;
+        left = broke.left;
+        are = broke.are;
+        at = tt;
+        out = broke.out;
+        kept = lift broke.done broke.next.change broke.kept;
+        leaves = broke.leaves;
+      },
+    ) in
     subst (λ (x : Which → History). EndsWith Q Unseen L x (end.DiskFault which) turns bs t more) (λ j which. sym (same which) j) (broken, e.1)
 ends_as P Q At K L h k f lift same (end.Memory memory) turns bs t more e = ((e.0.0, f e.0.0 e.0.1, cut_as K L t more e.0.0 lift e.0.2), e.1)
 

@@ -1,5 +1,5 @@
 -- What was handed over and came back, and what was done between.
-use Rattle.std.proofs.Common.{◌≡◌, ◌⊎◌, ◌≤◌, inl, inr, ℕ, Bool, true, false, List, [], ◌∷◌, refl, arith}
+use Rattle.std.proofs.Common.{◌≡◌, ◌⊎◌, ◌≤◌, inl, inr, [], ◌∷◌, arith}
 use Rattle.nqs_outside.proofs.Told.{extends_then}
 use Rattle.nqs_outside.specs.Told.{Extends}
 use Rattle.nqs_clients.specs.declared.status.NqsStatus.{NqsStatus}

@@ -18,7 +18,6 @@ use Rattle.nqs_clients.specs.Asking.{Asking}
 use Rattle.nqs_clients.specs.Exchange.{Exchanges}
 use Rattle.nqs_clients.specs.Sides.{Wired, IsSilent, IsUnwritten, Writes, FailsWriting}
 use Rattle.nqs_clients.specs.declared.answer.Answer.{Answer}
-use Rattle.nqs_clients.specs.declared.datagram.WaitStop.{WaitStop}
 use Rattle.nqs_clients.specs.declared.datagram.WaitStop.TheVariants as stop
 use Rattle.nqs_clients.specs.declared.status.NqsStatus.{NqsStatus}
 use Rattle.nqs_clients.specs.declared.status.NqsStatus.TheVariants as status

@@ -53,6 +53,10 @@ returns g c =
     answered_then (g.M.Machine.told c.args.machine.now) (g.M.Machine.told c.site.new.self) (g.M.Machine.told c.run_here.new.machine)
     (names_of o.dir names) _ _ (extends_same _ _ _ _ (ap (λ n. names_of o.dir n ∷ []) (sym same)) hands.lent) hands.back hands.later
     c.run_here.ensures
-    (λ parts did. inr (names, parts, refl,
-    runs_since (g.M.Machine.told c.args.machine.now).faults e hands.later o.dir names (host_named names o.host) o.form parts c.run_here.result
-    (subst (λ (h : Option HostId). RunsAt e o.dir names h o.form parts c.run_here.result) c.in-Some.ensures.host did)))
+    (λ parts did. inr (
+      names,
+      parts,
+      refl,
+      runs_since (g.M.Machine.told c.args.machine.now).faults e hands.later o.dir names (host_named names o.host) o.form parts c.run_here.result
+          (subst (λ (h : Option HostId). RunsAt e o.dir names h o.form parts c.run_here.result) c.in-Some.ensures.host did),
+    ))
