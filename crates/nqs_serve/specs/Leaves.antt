@@ -25,8 +25,8 @@ use Rattle.nqs_serve.specs.declared.cut.Cut.TheVariants as cut
 
 -- a fault of the node cuts an event off by this
 abbrev pub Cuts : StoreFault → Cut → Type 0
-Cuts fault (cut.Disk which) = fault ≡ fault.Disk which
-Cuts fault (cut.Memory memory) = fault ≡ fault.Memory memory
+Cuts e (cut.Disk which) = e ≡ fault.Disk which
+Cuts e (cut.Memory memory) = e ≡ fault.Memory memory
 
 module _ {D T E : Type 0} {g : disk.Ghosts D} (old now : Node D g) where
   -- what a call leaves, whatever it was to do, where this error is that a call of a disk failed
