@@ -23,7 +23,7 @@ use nqs_base::Name;
 use nqs_clients::NqsStatus;
 use nqs_node::Node;
 use nqs_outside::{Clock, Disk, Launcher, Outlet, Printer, Wire};
-use nqs_serve::{ServeEnd, serve};
+use nqs_serve::{ServeEnd, serve_with_notes};
 use nqs_state::HostState;
 use nqs_store::{Disks, LoadFault, Store};
 use nqs_types::HostId;
@@ -92,7 +92,8 @@ fn boot_and_serve<
         }
         Ok(mut node) => {
             notices.booted(node.state(), &said);
-            let end = serve(
+            let mut notes = notices.notes(node.state().site.as_slice());
+            let end = serve_with_notes(
                 alloc,
                 &mut node,
                 &mut around.wire,
@@ -100,6 +101,7 @@ fn boot_and_serve<
                 &mut around.printer,
                 &mut around.outlet,
                 &mut around.clock,
+                &mut notes,
                 turns,
             );
             notices.served(node.state(), &end);

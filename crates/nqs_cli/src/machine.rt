@@ -11,7 +11,7 @@ use crate::parts::{Around, DaemonParts, ShepherdParts};
 use nqs_base::{Memory, Name, NameList};
 use nqs_clients::NqsStatus;
 use nqs_outside::{Clock, Disk, Launcher, Outlet, Printer, Runner, Wire};
-use nqs_serve::ServeEnd;
+use nqs_serve::{Notes, ServeEnd};
 use nqs_state::HostState;
 use nqs_store::{Disks, LoadFault};
 use nqs_types::{HostId, Output, Which};
@@ -37,6 +37,8 @@ pub(crate) fn status_of_end(end: MachineEnd) -> NqsStatus
 
 /// What the program tells its operator, beside all that a host does. No clause speaks of it.
 pub trait Notices {
+    type N: Notes + Drop;
+
     /// The words are in no form.
     fn not_in_form(&self);
 
@@ -62,6 +64,9 @@ pub trait Notices {
     /// The host has booted, and what its boot said: which requests ran when it had stopped, and
     /// start again or are lost.
     fn booted(&self, state: &HostState, said: &[Output]);
+
+    /// What the host notes while it serves, of a site whose hosts have these names.
+    fn notes(&self, names: &[Name]) -> Self::N;
 
     /// The host has served, until this end.
     fn served(&self, state: &HostState, end: &ServeEnd);

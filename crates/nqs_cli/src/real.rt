@@ -8,6 +8,7 @@ ghost use Rattle.std.specs.Prelude.{◌≡◌, ◌≤◌, [], None, length, IfOk
 ghost use Rattle.nqs_outside.specs.Causes.{Rose};
 
 use crate::machine::{Machine, MachineEnd, Notices};
+use crate::notes::RealNotes;
 use crate::parts::{Around, DaemonParts, ShepherdParts};
 use crate::told::{
     tell_broken, tell_end, tell_fault, tell_forms, tell_host, tell_launcher, tell_line, tell_lock,
@@ -331,6 +332,8 @@ impl RealMachine {
 }
 
 impl Notices for RealMachine {
+    type N = RealNotes;
+
     fn not_in_form(&self) {
         tell_forms(&self.rt);
     }
@@ -363,8 +366,12 @@ impl Notices for RealMachine {
         let _ = tell_start(&self.rt, state, said);
     }
 
+    fn notes(&self, names: &[Name]) -> RealNotes {
+        RealNotes::new(self.rt, names)
+    }
+
     fn served(&self, state: &HostState, end: &ServeEnd) {
-        let _ = tell_end(&self.rt, state, end);
+        let _ = tell_end(&self.rt, &self.folder, state, end);
     }
 }
 
@@ -438,9 +445,13 @@ impl Machine for RealMachine {
     fn daemon_back(&mut self, host: HostId, disks: Disks<FileDisk>, around: RealAround)
         ensures { TakesBack (record { lent = None; back = None; faults = self.old.faults }) (record { lent = None; back = None; faults = self.new.faults })
             (daemon_back host (record {
-                disks = record { histories = λ which. record { start = []; calls = [] }; faults = λ which. (disk_at which disks).faults };
-                wire = record { traffic = None; receive_faults = around.wire.receive_faults; send_faults = around.wire.send_faults };
-                asked = None; prints = None; filings = None; given = None })) }
+              disks = record { histories = λ which. record { start = []; calls = [] }; faults = λ which. (disk_at which disks).faults };
+              wire = record { traffic = None; receive_faults = around.wire.receive_faults; send_faults = around.wire.send_faults };
+              asked = None;
+              prints = None;
+              filings = None;
+              given = None;
+            })) }
     {
         let _ = host;
         drop(around);

@@ -27,7 +27,8 @@ fn disk_text(which: Which) -> &'static str {
     }
 }
 
-fn name_text(name: Option<&Name>) -> &str {
+/// A name, or what stands for one that isn't there.
+pub(crate) fn name_text(name: Option<&Name>) -> &str {
     match name {
         Some(name) => str::from_utf8(name.as_bytes()).unwrap_or("?"),
         None => "?",
@@ -172,16 +173,27 @@ fn end_text(end: &ServeEnd) -> &'static str {
         ServeEnd::Shutdown => "was shut down",
         ServeEnd::TurnsUsed => "ends: its turns are used up",
         ServeEnd::WireFault => "ends: its socket failed",
-        ServeEnd::DiskFault(_) => "ends: a disk failed, or is full",
+        ServeEnd::DiskFault(_) => "ends",
         ServeEnd::Memory(_) => "ends: memory ran out",
     }
 }
 
-/// Says how a host has ended.
-pub(crate) fn tell_end(rt: &HostRuntime, state: &HostState, end: &ServeEnd) -> io::Result<()> {
+/// Says how a host has ended, and where a disk failed, which one.
+pub(crate) fn tell_end(
+    rt: &HostRuntime,
+    folder: &str,
+    state: &HostState,
+    end: &ServeEnd,
+) -> io::Result<()> {
     let host = name_text(state.site.as_slice().get(state.me.0 as usize));
-    let what = end_text(end);
-    tell(rt, &format!(in rt.alloc(); "{host} {what}")?);
+    let text = match end {
+        ServeEnd::DiskFault(which) => {
+            let disk = disk_text(*which);
+            format!(in rt.alloc(); "{host} ends: its disk {folder}/{disk} failed, or is full")?
+        }
+        _ => format!(in rt.alloc(); "{host} {}", end_text(end))?,
+    };
+    tell(rt, &text);
     Ok(())
 }
 

@@ -15,7 +15,6 @@ use Rattle.nqs_fakes.specs.declared.clock.ListClock.{ListClock}
 use Rattle.nqs_fakes.specs.declared.launcher.MemLauncher.{MemLauncher}
 use Rattle.nqs_fakes.specs.declared.outlet.MemOutlet.{MemOutlet}
 use Rattle.nqs_fakes.specs.declared.printer.MemPrinter.{MemPrinter}
-use Rattle.nqs_fakes.specs.declared.runner.MemRunner.{MemRunner}
 use Rattle.nqs_fakes.specs.declared.wire.MemWire.{MemWire}
 use Rattle.nqs_store.specs.Disks.{disk_at}
 use Rattle.nqs_store.specs.declared.disks.Disks.{Disks}

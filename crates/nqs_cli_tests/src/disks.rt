@@ -1,7 +1,9 @@
 //! Disks in memory from one run to the next.
 
 ghost use Rattle.std.specs.Prelude.{◌≡◌, [], IfOk};
-ghost use Rattle.nqs_outside.specs.History.{content};
+ghost use Rattle.nqs_types.specs.declared.world.Which.{Which};
+ghost use Rattle.nqs_outside.specs.History.{content, IsQuiet};
+ghost use Rattle.nqs_store.specs.Disks.{disk_at};
 ghost use Rattle.nqs_disk.specs.MemDisk.{history_of, faults_of};
 ghost use Rattle.nqs_cli_tests.specs.Told.{fresh_disks, told_disks};
 
@@ -66,7 +68,8 @@ pub(crate) fn settled_disks(
     alloc: Global,
     disks: Disks<MemDisk>,
 ) -> Result<(Disks<MemDisk>, Images), MachineEnd>
-    ensures { IfOk result (λ r. told_disks r.0 ≡ fresh_disks r.1) }
+    ensures fresh { IfOk result (λ r. told_disks r.0 ≡ fresh_disks r.1) }
+    ensures quiet { IfOk result (λ r. (which : Which) → IsQuiet (history_of (disk_at which r.0))) }
 {
     let Disks {
         root,

@@ -14,4 +14,4 @@ mod machine;
 mod shown;
 
 pub use kept::{Images, Lending, MemAround, Returned};
-pub use machine::MemMachine;
+pub use machine::{MemMachine, MemNotes};

@@ -3,7 +3,11 @@
 //! time. It tells what it lends and takes back.
 
 ghost use Rattle.std.specs.Prelude.{◌≡◌, ◌≤◌, ◌<◌, ◌+◌, [], ◌∷◌, IfOk, OnOk, IsErrOf, OnErr, Some, length};
+ghost use Rattle.nqs_types.specs.declared.world.Which.{Which};
 ghost use Rattle.nqs_outside.specs.Causes.{Rose};
+ghost use Rattle.nqs_outside.specs.History.{IsQuiet};
+ghost use Rattle.nqs_disk.specs.MemDisk.{history_of};
+ghost use Rattle.nqs_store.specs.Disks.{disk_at};
 ghost use Rattle.nqs_outside.specs.Told.{Extends};
 ghost use Rattle.nqs_fakes.specs.Runner.{runs_of};
 ghost use Rattle.nqs_cli.specs.Parts.{names_of};
@@ -19,10 +23,10 @@ use nqs_cli::{Around, DaemonParts, Machine, MachineEnd, Notices, ShepherdParts};
 use nqs_disk::MemDisk;
 use nqs_fakes::{Item, ListClock, MemLauncher, MemOutlet, MemPrinter, MemRunner, MemWire};
 use nqs_outside::RunEnd;
-use nqs_serve::ServeEnd;
+use nqs_serve::{IgnoreCause, Notes, ServeEnd};
 use nqs_state::HostState;
 use nqs_store::{Disks, LoadFault};
-use nqs_types::{HostId, Output, Which};
+use nqs_types::{HostId, Output, RequestId, Which};
 use std::alloc::Global;
 
 /// The port of a client and of a shepherd.
@@ -30,6 +34,10 @@ const PORT: u16 = 9;
 
 /// The moment at which the clock stands.
 const MOMENT: u64 = 7;
+
+/// What its daemons note.
+#[derive(Drop)]
+pub struct MemNotes {}
 
 /// The machine.
 pub struct MemMachine {
@@ -60,6 +68,15 @@ impl Drop for MemMachine {
             faults: _,
             missing: _,
         } = self;
+    }
+}
+
+// The disks among parts that came back, which have empty ones in their place from now on.
+fn disks_of(alloc: Global, part: &mut Returned) -> Option<Disks<MemDisk>> {
+    match part {
+        Returned::Disks(_, disks) => Some(std::mem::replace(disks, empty_disks(alloc))),
+        Returned::Daemon(_, disks, _) => Some(std::mem::replace(disks, empty_disks(alloc))),
+        Returned::Client(_) | Returned::Shepherd(_, _) => None,
     }
 }
 
@@ -106,16 +123,17 @@ impl MemMachine {
         &self.back
     }
 
-    /// Begins its lists anew. The disks that came back stay.
+    /// Begins its lists anew, at the end of a run. The disks that came back stay.
     pub fn begin_anew(&mut self) {
-        while let Some(part) = self.back.pop() {
-            match part {
-                Returned::Disks(_, disks) | Returned::Daemon(_, disks, _) => {
-                    self.disks = Some(disks);
-                }
-                Returned::Client(_) | Returned::Shepherd(_, _) => {}
-            }
+        let alloc = self.alloc;
+        let found = match self.back.last_mut() {
+            Some(part) => disks_of(alloc, part),
+            None => None,
+        };
+        if found.is_some() {
+            self.disks = found;
         }
+        self.back.clear();
         self.lent.clear();
         self.starved = false;
     }
@@ -182,13 +200,27 @@ impl MemMachine {
         }
     }
 
-    // Keeps what comes back.
+    // Keeps a part more that came back.
+    #[tactic(auto, using(crate::proofs::Keeping::told_more))]
+    fn keep_back(&mut self, part: Returned) -> Result<(), MachineEnd>
+        ensures back { OnOk result (Extends (machine_told self.old).back (machine_told self.new).back (back_of part ∷ [])) }
+        ensures lent { self.new.lent ≡ self.old.lent }
+        ensures starved { self.new.starved ≡ self.old.starved }
+        ensures faults { self.new.faults ≡ self.old.faults }
+    {
+        match self.back.push(part) {
+            Ok(()) => Ok(()),
+            Err(refused) => Err(MachineEnd::Memory(refused.into())),
+        }
+    }
+
+    // Takes back what was lent.
     fn take_back(&mut self, part: Returned)
         ensures back { Extends (machine_told self.old).back (machine_told self.new).back (back_of part ∷ []) }
         ensures lent { Extends (machine_told self.old).lent (machine_told self.new).lent [] }
         ensures faults { self.new.faults ≡ self.old.faults }
     {
-        if self.back.push(part).is_err() {
+        if self.keep_back(part).is_err() {
             self.starved = true;
         }
     }
@@ -196,6 +228,7 @@ impl MemMachine {
     // The disks, which are lent from now on.
     fn settle(&mut self) -> Result<(Disks<MemDisk>, Images), MachineEnd>
         ensures fresh { IfOk result (λ r. told_disks r.0 ≡ fresh_disks r.1) }
+        ensures quiet { IfOk result (λ r. (which : Which) → IsQuiet (history_of (disk_at which r.0))) }
         ensures lent { (machine_told self.new).lent ≡ (machine_told self.old).lent }
         ensures back { (machine_told self.new).back ≡ (machine_told self.old).back }
         ensures later { self.old.faults ≤ self.new.faults }
@@ -309,8 +342,17 @@ fn new_runner(alloc: Global) -> Result<MemRunner, Memory>
     Ok(MemRunner::new(alloc, ends, Vec::new(alloc)))
 }
 
+// Its daemons note nothing.
+impl Notes for MemNotes {
+    fn ignored(&mut self, _cause: &IgnoreCause) {}
+
+    fn ended(&mut self, _id: RequestId, _start: u16, _status: u8) {}
+}
+
 // It has no operator.
 impl Notices for MemMachine {
+    type N = MemNotes;
+
     fn not_in_form(&self) {}
 
     fn no_such_host(&self, _dir: &str, _name: &str) {}
@@ -326,6 +368,10 @@ impl Notices for MemMachine {
     fn not_here(&self, _me: HostId, _names: &[Name], _state: &HostState) {}
 
     fn booted(&self, _state: &HostState, _said: &[Output]) {}
+
+    fn notes(&self, _names: &[Name]) -> MemNotes {
+        MemNotes {}
+    }
 
     fn served(&self, _state: &HostState, _end: &ServeEnd) {}
 }

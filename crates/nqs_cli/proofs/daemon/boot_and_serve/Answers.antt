@@ -20,11 +20,11 @@ use Rattle.nqs_cli.proofs.daemon.boot_and_serve.Goals as goal
 pub boot_loaded-requires : goal.boot_loaded-requires
 boot_loaded-requires g c = let loaded = c.requires.loaded in record { sound = loaded.1.sound; running = loaded.1.running }
 
-pub serve-end-requires-clause-sound : goal.serve-end-requires-clause-sound
-serve-end-requires-clause-sound g c = let loaded = c.requires.loaded in (c.in-Ok.ensures.booted loaded.0 loaded.1).sound
+pub serve_with_notes-end-requires-clause-sound : goal.serve_with_notes-end-requires-clause-sound
+serve_with_notes-end-requires-clause-sound g c = let loaded = c.requires.loaded in (c.in-Ok.ensures.booted loaded.0 loaded.1).sound
 
-pub serve-end-requires-clause-running : goal.serve-end-requires-clause-running
-serve-end-requires-clause-running g c = let loaded = c.requires.loaded in (c.in-Ok.ensures.booted loaded.0 loaded.1).running
+pub serve_with_notes-end-requires-clause-running : goal.serve_with_notes-end-requires-clause-running
+serve_with_notes-end-requires-clause-running g c = let loaded = c.requires.loaded in (c.in-Ok.ensures.booted loaded.0 loaded.1).running
 
 pub returns-in-Err : goal.returns-in-Err
 returns-in-Err g c = λ me names disks loaded here.
@@ -41,14 +41,14 @@ pub returns : goal.returns
 returns g c = λ me names disks loaded here.
     let was : Outside = daemon_told g.D.Disk g.W.Wire g.L.Launcher g.P.Printer g.O.Outlet g.C.Clock disks c.args.around.now in
     let now : Outside = daemon_told g.D.Disk g.W.Wire g.L.Launcher g.P.Printer g.O.Outlet g.C.Clock c.close.result (record {
-      wire = c.serve-end.new.wire;
-      launcher = c.serve-end.new.launcher;
-      printer = c.serve-end.new.printer;
-      outlet = c.serve-end.new.outlet;
-      clock = c.serve-end.new.clock;
+      wire = c.serve_with_notes-end.new.wire;
+      launcher = c.serve_with_notes-end.new.launcher;
+      printer = c.serve_with_notes-end.new.printer;
+      outlet = c.serve_with_notes-end.new.outlet;
+      clock = c.serve_with_notes-end.new.clock;
     }) in
     let booted = c.in-Ok.ensures.booted disks loaded in
-    has_served g.D.Disk.tells me names c.args.turns was now c.serve-end.result c.status_of_serve.result c.status_of_serve.ensures
+    has_served g.D.Disk.tells me names c.args.turns was now c.serve_with_notes-end.result c.status_of_serve.result c.status_of_serve.ensures
     (λ yes.
     let ours = here yes in
     let s = ours.0 in
@@ -56,14 +56,14 @@ returns g c = λ me names disks loaded here.
     let told = booted.told yes s there in
     let named = active_told _ s there in
     let u = applied Boot s in
-    let run = c.serve-end.ensures.run yes u told in
+    let run = c.serve_with_notes-end.ensures.run yes u told in
     let place = ap here_of told.is in
     let node = c.in-Ok.node in
-    let new = c.serve-end.new.node in
+    let new = c.serve_with_notes-end.new.node in
     let same : (which : Which) → histories_of g.D.Disk.history c.close.result which ≡ history_of new which =
     λ which. ap g.D.Disk.history (c.close.ensures which) in
     let moved = subst (λ (h : Here). Ran h run.0 (idle u) run.1 run.2 (telling_of was) (telling_of now)
-    × EndsWith (Tells new) (IsAt new) (KeptBehind node new u (run_calls h (idle u) run.0)) (history_of new) c.serve-end.result c.args.turns
+    × EndsWith (Tells new) (IsAt new) (KeptBehind node new u (run_calls h (idle u) run.0)) (history_of new) c.serve_with_notes-end.result c.args.turns
     (stops h (idle u) run.0) run.1 run.2)
     place (run.3, run.4) in
     let passes = subst (λ (h : Here). TellsThroughout (active_of node) (history_of node) (history_of new) (IsPassed h (idle u) run.0 run.2.moments))
@@ -86,14 +86,14 @@ returns g c = λ me names disks loaded here.
             (calls ++ done) failed same (booted.active yes named.0 named.1) (booted.made yes named.0 named.1).calls
             (booted.any_moment yes s there named.0 named.1) kept)
             same
-            c.serve-end.result c.args.turns (stops (here_of s) (idle u) run.0) run.1 run.2 moved.1,
+            c.serve_with_notes-end.result c.args.turns (stops (here_of s) (idle u) run.0) run.1 run.2 moved.1,
         since_boot named.0 (active_of node) _ (history_of node) (history_of new) (histories_of g.D.Disk.history c.close.result) s run.0 run.2.moments same
             (booted.active yes named.0 named.1) (booted.any_moment yes s there named.0 named.1) passes,
       ),
     ))
-    c.serve-end.ensures.wire_fault
+    c.serve_with_notes-end.ensures.wire_fault
     (λ which is. (
       which,
       subst (λ d. Rose (g.D.Disk.faults (disk_at which disks)) (g.D.Disk.faults d)) (sym (c.close.ensures which))
-          (omega (arith, booted.later which, (c.serve-end.ensures.disk_fault which is).1)),
+          (omega (arith, booted.later which, (c.serve_with_notes-end.ensures.disk_fault which is).1)),
     ))
