@@ -1,0 +1,10 @@
+mod CutLaws
+mod Feeding
+mod Few
+mod FormLaws
+mod KeyLaws
+mod Law
+mod Marks
+mod Places
+mod SlotLaws
+mod Steps
