@@ -1,5 +1,6 @@
 """What trials and measures in Python share: this repository's programs, a site of one host with its
 daemon, a client that stays, counting, and bounds."""
+import hmac
 import os
 import socket
 import struct
@@ -53,18 +54,35 @@ def free_port():
         return bound.getsockname()[1]
 
 
-def site_of_one(folder):
-    """Makes a folder the site of one host, alpha, at a free port, which it answers."""
+def site_of_one(folder, key=None):
+    """Makes a folder the site of one host, alpha, at a free port, which it answers. The site is
+    open, or has this key of 32 bytes."""
     port = free_port()
     with open(os.path.join(folder, "site"), "w", encoding="ascii") as site:
         site.write(f"alpha 127.0.0.1 {port}\n")
+    path = os.path.join(folder, "key")
+    with open(path, "w", encoding="ascii") as file:
+        os.chmod(path, 0o600 if key else 0o644)
+        file.write(f"{key.hex() if key else 'open'}\n")
     return port
 
 
-class Client:
-    """A client that stays: it asks a daemon by datagrams."""
+def sealed(text, key):
+    """A datagram as it goes over the wire: with its tag behind it, where there is a key."""
+    return text + hmac.digest(key, text, "sha256") if key else text
 
-    def __init__(self, port, wait=5.0):
+
+def opened(datagram, key):
+    """What a datagram says, or None, where it has no true tag."""
+    text = datagram[:-32] if key else datagram
+    return text if datagram == sealed(text, key) else None
+
+
+class Client:
+    """A client that stays: it asks a daemon by datagrams, which have a tag where there is a key."""
+
+    def __init__(self, port, wait=5.0, key=None):
+        self.key = key
         self.socket = socket.socket(socket.AF_INET, socket.SOCK_DGRAM)
         self.socket.bind(("127.0.0.1", 0))
         self.socket.settimeout(wait)
@@ -79,12 +97,14 @@ class Client:
         for word in words:
             text += struct.pack(">I", len(word)) + word
         text += struct.pack(">I", len(script)) + script
-        self.socket.sendto(text, self.daemon)
+        self.socket.sendto(sealed(text, self.key), self.daemon)
         while True:
             try:
-                answer = self.socket.recv(65536)
+                answer = opened(self.socket.recv(65536), self.key)
             except socket.timeout:
                 return None
+            if answer is None:
+                continue
             token, ok, length = struct.unpack(">QBI", answer[4:17])
             if answer[1] == 11 and token == self.token:
                 return answer[17:17 + length].decode()
@@ -97,11 +117,11 @@ class Client:
 
 
 class Daemon:
-    """The daemon of a new site of one host in a folder."""
+    """The daemon of a new site of one host in a folder, which is open or has this key."""
 
-    def __init__(self, nqs, folder):
-        self.nqs, self.folder = nqs, folder
-        self.port = site_of_one(folder)
+    def __init__(self, nqs, folder, key=None):
+        self.nqs, self.folder, self.key = nqs, folder, key
+        self.port = site_of_one(folder, key)
         subprocess.run([nqs, "format", folder, "alpha"], check=True)
         self.start()
 
@@ -115,7 +135,7 @@ class Daemon:
         """Starts it, and answers how long it took until its first answer."""
         began = time.perf_counter()
         self.begin()
-        client = Client(self.port, 0.02)
+        client = Client(self.port, 0.02, self.key)
         while client.ask(2, (b"-u", b"nobody")) is None:
             pass
         return time.perf_counter() - began

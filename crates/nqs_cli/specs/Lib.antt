@@ -4,3 +4,4 @@ pub mod Formats
 pub mod Daemons
 pub mod Runs
 pub mod Ends
+pub mod Keys

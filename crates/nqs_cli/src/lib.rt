@@ -10,12 +10,14 @@ mod dispatch;
 mod entry;
 mod form;
 mod format;
+mod key;
 mod machine;
 mod notes;
 mod parts;
 mod real;
 mod station;
 mod told;
+mod wire;
 
 pub use dispatch::run;
 pub use entry::program;

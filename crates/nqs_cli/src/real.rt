@@ -1,25 +1,31 @@
 //! The machine that the program runs on: files, a socket and child programs, made by `nqs_real`.
 //!
-//! It does nothing but read the site's file, make the adapters and take them back, and say on
-//! standard error what can't be had. It is trusted to hand out the parts of the folder and the host
-//! that it is asked for.
+//! It does nothing but read the site's file and that of its key, make the adapters and take them
+//! back, and say on standard error what can't be had. It is trusted to hand out the parts of the
+//! folder and the host that it is asked for.
 
-ghost use Rattle.std.specs.Prelude.{◌≡◌, ◌≤◌, [], None, length, IfOk, IsErrOf};
+ghost use Rattle.std.specs.Prelude.{◌≡◌, ◌≤◌, [], None, Ok, length, IfOk, IsErrOf};
 ghost use Rattle.nqs_outside.specs.Causes.{Rose};
+ghost use Rattle.nqs_seal.specs.Wires.{IsUnder};
+ghost use Rattle.nqs_cli.specs.Keys.{Hears};
 
+use crate::key::heard_by;
 use crate::machine::{Machine, MachineEnd, Notices};
 use crate::notes::RealNotes;
 use crate::parts::{Around, DaemonParts, ShepherdParts};
 use crate::told::{
-    tell_broken, tell_end, tell_fault, tell_forms, tell_host, tell_launcher, tell_line, tell_lock,
-    tell_missing, tell_others, tell_port, tell_site, tell_start, tell_unbooted, tell_used,
+    tell_broken, tell_end, tell_fault, tell_forms, tell_host, tell_key, tell_key_fault,
+    tell_launcher, tell_line, tell_lock, tell_missing, tell_no_file, tell_no_key, tell_others,
+    tell_port, tell_site, tell_start, tell_unbooted, tell_used,
 };
+use crate::wire::RealWire;
 use nqs_base::{Memory, Name, NameList};
 use nqs_real::{
-    FileDisk, FileOutlet, FilePrinter, HostLock, ShellRunner, ShepherdLauncher, SiteFault,
-    SiteHost, SystemClock, UdpWire, host_folder, make_host_folder, missing_disk, names_of,
-    open_disks, own_program, read_site, tell_part,
+    FileDisk, FileOutlet, FilePrinter, HostLock, KeyFile, KeyStop, ShellRunner, ShepherdLauncher,
+    SiteFault, SiteHost, SystemClock, UdpWire, host_folder, key_file, make_host_folder,
+    missing_disk, names_of, open_disks, own_program, read_site, tell_part,
 };
+use nqs_seal::SiteKey;
 use nqs_serve::ServeEnd;
 use nqs_state::HostState;
 use nqs_store::{Disks, LoadFault};
@@ -46,23 +52,23 @@ pub struct RealMachine {
     faults: u64,
 }
 
-type RealAround = Around<UdpWire, ShepherdLauncher, FilePrinter, FileOutlet, SystemClock>;
+type RealAround = Around<RealWire, ShepherdLauncher, FilePrinter, FileOutlet, SystemClock>;
 
 type RealParts = DaemonParts<
     FileDisk,
-    UdpWire,
+    RealWire,
     ShepherdLauncher,
     FilePrinter,
     FileOutlet,
     SystemClock,
 >;
 
-type RealShepherd = ShepherdParts<ShellRunner, UdpWire>;
+type RealShepherd = ShepherdParts<ShellRunner, RealWire>;
 
 // Why a part can't be made.
 #[derive(Drop)]
 enum PartFault {
-    // A call of the system failed, or the site's file is none.
+    // A call of the system failed, or the site's file or that of its key is none.
     Call,
     Memory(Memory),
 }
@@ -113,6 +119,47 @@ fn site_at(rt: &HostRuntime, dir: &str) -> Result<Vec<SiteHost>, PartFault>
             let _ = tell_site(rt, dir, &e);
             Err(PartFault::from(e))
         }
+    }
+}
+
+// Whom the hosts of a site hear, by the file of its key.
+fn key_in(rt: &HostRuntime, dir: &str, file: &KeyFile) -> Result<SiteKey, PartFault>
+    ensures { IfOk result (λ key. Hears file.now (Ok key)) }
+{
+    match heard_by(file) {
+        Ok(key) => Ok(key),
+        Err(fault) => {
+            let _ = tell_key_fault(rt, dir, &fault);
+            Err(PartFault::Call)
+        }
+    }
+}
+
+fn key_at(rt: &HostRuntime, dir: &str) -> Result<SiteKey, PartFault> {
+    match key_file(rt, dir) {
+        Ok(file) => key_in(rt, dir, &file),
+        Err(KeyStop::Missing) => {
+            let _ = tell_no_key(rt, dir);
+            Err(PartFault::Call)
+        }
+        Err(KeyStop::NoFile) => {
+            let _ = tell_no_file(rt, dir);
+            Err(PartFault::Call)
+        }
+        Err(KeyStop::Call(e)) => {
+            let _ = tell_key(rt, dir, &e);
+            Err(PartFault::from(e))
+        }
+    }
+}
+
+// The wire over a socket that the file of the site's key asks for.
+fn wire_under(rt: &HostRuntime, socket: UdpWire, key: SiteKey) -> Result<RealWire, PartFault>
+    ensures { IfOk result (λ wire. IsUnder key socket wire.inside) }
+{
+    match RealWire::new(rt.alloc(), socket, key) {
+        Ok(wire) => Ok(wire),
+        Err(memory) => Err(PartFault::Memory(memory)),
     }
 }
 
@@ -236,10 +283,10 @@ impl RealMachine {
         Ok(missing)
     }
 
-    // The wire of a host's daemon.
-    fn own_wire(&self, site: &[SiteHost], host: HostId) -> Result<UdpWire, PartFault> {
+    // The socket of a host's daemon.
+    fn own_socket(&self, site: &[SiteHost], host: HostId) -> Result<UdpWire, PartFault> {
         match UdpWire::of_daemon(self.rt, site, host, WAIT) {
-            Ok(wire) => Ok(wire),
+            Ok(socket) => Ok(socket),
             Err(e) => {
                 let _ = tell_port(&self.rt, site, host, &e);
                 Err(PartFault::from(e))
@@ -248,17 +295,19 @@ impl RealMachine {
     }
 
     // A wire of a client or a shepherd, and its port.
-    fn free_wire(&self, site: &[SiteHost]) -> Result<(UdpWire, u16), PartFault> {
-        had(
+    fn free_wire(&self, site: &[SiteHost], key: SiteKey) -> Result<(RealWire, u16), PartFault> {
+        let (socket, port) = had(
             &self.rt,
             "a socket",
             UdpWire::of_client(self.rt, site, WAIT),
-        )
+        )?;
+        Ok((wire_under(&self.rt, socket, key)?, port))
     }
 
-    fn client_wire(&self, dir: &str) -> Result<(UdpWire, u16), PartFault> {
+    fn client_wire(&self, dir: &str) -> Result<(RealWire, u16), PartFault> {
         let site = site_at(&self.rt, dir)?;
-        self.free_wire(&site)
+        let key = key_at(&self.rt, dir)?;
+        self.free_wire(&site, key)
     }
 
     fn own_launcher(
@@ -294,8 +343,15 @@ impl RealMachine {
     }
 
     // What is around the disks of a host whose folder is locked.
-    fn around(&self, dir: &str, site: &[SiteHost], host: HostId) -> Result<RealAround, PartFault> {
-        let wire = self.own_wire(site, host)?;
+    fn around(
+        &self,
+        dir: &str,
+        site: &[SiteHost],
+        key: SiteKey,
+        host: HostId,
+    ) -> Result<RealAround, PartFault> {
+        let socket = self.own_socket(site, host)?;
+        let wire = wire_under(&self.rt, socket, key)?;
         let launcher = self.own_launcher(dir, site, host)?;
         let printer = self.own_printer(site)?;
         let outlet = self.own_outlet()?;
@@ -313,20 +369,22 @@ impl RealMachine {
         ensures { self.new.faults ≡ self.old.faults }
     {
         let site = site_at(&self.rt, dir)?;
+        let key = key_at(&self.rt, dir)?;
         self.lock_folder(dir, &site, host)?;
         let disks = self.opened()?;
-        let around = self.around(dir, &site, host)?;
+        let around = self.around(dir, &site, key, host)?;
         Ok(DaemonParts { disks, around })
     }
 
     fn shepherd_of(&self, dir: &str, host: HostId) -> Result<RealShepherd, PartFault> {
         let site = site_at(&self.rt, dir)?;
+        let key = key_at(&self.rt, dir)?;
         let runner = had(
             &self.rt,
             "the folder work",
             ShellRunner::open(self.rt, dir, &site, host),
         )?;
-        let (wire, port) = self.free_wire(&site)?;
+        let (wire, port) = self.free_wire(&site, key)?;
         Ok(ShepherdParts { runner, wire, port })
     }
 }
@@ -378,10 +436,11 @@ impl Notices for RealMachine {
 impl Machine for RealMachine {
     ghost use Rattle.nqs_store.specs.Disks.{disk_at};
     ghost use Rattle.nqs_cli.specs.Parts.{TakesBack, disks_back, daemon_back};
+    ghost use Rattle.nqs_seal.specs.Wires.{site_traffic, site_receives, site_sends};
 
     type D = FileDisk;
 
-    type W = UdpWire;
+    type W = RealWire;
 
     type L = ShepherdLauncher;
 
@@ -423,7 +482,7 @@ impl Machine for RealMachine {
         self.answer(made)
     }
 
-    fn client(&mut self, dir: &str) -> Result<(UdpWire, u16), MachineEnd> {
+    fn client(&mut self, dir: &str) -> Result<(RealWire, u16), MachineEnd> {
         let made = self.client_wire(dir);
         self.answer(made)
     }
@@ -446,7 +505,11 @@ impl Machine for RealMachine {
         ensures { TakesBack (record { lent = None; back = None; faults = self.old.faults }) (record { lent = None; back = None; faults = self.new.faults })
             (daemon_back host (record {
               disks = record { histories = λ which. record { start = []; calls = [] }; faults = λ which. (disk_at which disks).faults };
-              wire = record { traffic = None; receive_faults = around.wire.receive_faults; send_faults = around.wire.send_faults };
+              wire = record {
+                traffic = site_traffic around.wire.inside;
+                receive_faults = site_receives around.wire.inside;
+                send_faults = site_sends around.wire.inside;
+              };
               asked = None;
               prints = None;
               filings = None;
@@ -459,7 +522,7 @@ impl Machine for RealMachine {
         self.lock = None;
     }
 
-    fn client_back(&mut self, _part: UdpWire) {}
+    fn client_back(&mut self, _part: RealWire) {}
 
-    fn shepherd_back(&mut self, _runner: ShellRunner, _wire: UdpWire) {}
+    fn shepherd_back(&mut self, _runner: ShellRunner, _wire: RealWire) {}
 }

@@ -1,6 +1,7 @@
 //! What the real machine tells its operator on standard error, beside what jobs have to say: that a
 //! host starts and ends, why its disks aren't served, and which part of the machine can't be had.
 
+use crate::key::KeyFault;
 use nqs_base::Name;
 use nqs_real::{SiteHost, lock_holder, tell, tell_boot, tell_part};
 use nqs_serve::ServeEnd;
@@ -237,6 +238,49 @@ pub(crate) fn tell_line(rt: &HostRuntime, dir: &str, line: u64) -> io::Result<()
 /// Says that the file of a site can't be read.
 pub(crate) fn tell_site(rt: &HostRuntime, dir: &str, cause: &io::Error) -> io::Result<()> {
     tell_part(rt, &format!(in rt.alloc(); "{dir}/site")?, cause);
+    Ok(())
+}
+
+/// Says that a site doesn't say whom it hears.
+pub(crate) fn tell_no_key(rt: &HostRuntime, dir: &str) -> io::Result<()> {
+    let text = format!(in rt.alloc();
+        "{dir}/key isn't there: nqs-site {dir} key makes a key, echo open >{dir}/key lets everyone in"
+    )?;
+    tell(rt, &text);
+    Ok(())
+}
+
+/// Says that what has the name of a site's key is no file.
+pub(crate) fn tell_no_file(rt: &HostRuntime, dir: &str) -> io::Result<()> {
+    tell(
+        rt,
+        &format!(in rt.alloc(); "{dir}/key is no regular file: put the file itself there")?,
+    );
+    Ok(())
+}
+
+fn key_text(fault: &KeyFault) -> &'static str {
+    match fault {
+        KeyFault::NoForm => {
+            "is neither the word open nor 64 digits 0-9 and a-f, in one line: nqs-site(8) makes a key"
+        }
+        KeyFault::Shared => "is open to others: take their rights away, chmod 0640 or 0600",
+        KeyFault::Foreign => "is someone else's: it has to belong to root or to the folder's owner",
+    }
+}
+
+/// Says why the file of a site's key says nobody.
+pub(crate) fn tell_key_fault(rt: &HostRuntime, dir: &str, fault: &KeyFault) -> io::Result<()> {
+    tell(
+        rt,
+        &format!(in rt.alloc(); "{dir}/key {}", key_text(fault))?,
+    );
+    Ok(())
+}
+
+/// Says that the file of a site's key can't be read.
+pub(crate) fn tell_key(rt: &HostRuntime, dir: &str, cause: &io::Error) -> io::Result<()> {
+    tell_part(rt, &format!(in rt.alloc(); "{dir}/key")?, cause);
     Ok(())
 }
 

@@ -13,8 +13,8 @@ use nqs_packets::{PacketFault, read_message, write_message};
 use nqs_types::Message;
 use std::alloc::Global;
 
-/// The greatest length of a datagram, and one byte more, so that a longer one is none.
-const ROOM: usize = 49_153;
+/// The greatest length of a datagram with its tag, and one byte more, so that a longer one is none.
+const ROOM: usize = 49_185;
 
 /// There was no memory to read a datagram. Only the reader makes one, so that what was read is
 /// never given up for want of memory.

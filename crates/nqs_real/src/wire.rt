@@ -1,6 +1,6 @@
 //! A UDP socket as a wire.
 
-ghost use Rattle.std.specs.Prelude.{◌≡◌, None, IfOk, length};
+ghost use Rattle.std.specs.Prelude.{◌≡◌, None, IfOk, IfSome, length};
 ghost use Rattle.nqs_outside.specs.Asked.{IsWithin};
 
 use crate::counted::counted;
@@ -21,15 +21,32 @@ const SECOND: u64 = 1000;
 /// For how many bytes of datagrams that wait to be received a socket asks: 8 MB.
 const ROOM: i32 = 8 << 20;
 
+// From where a socket takes datagrams.
+#[derive(Clone, Copy, Drop)]
+enum Heard {
+    // From anywhere: a daemon's.
+    All,
+    // From the place of the first send, before there was one.
+    Next,
+    // From this place alone, the one to which it has sent last.
+    One(SocketAddr),
+}
+
 /// A UDP socket as a wire. It asks the system for room for 8 MB of datagrams that wait, and has
 /// what the system allows; one that finds no room is lost, as on any network. A receive waits at
 /// most until the wire's wait is over, which begins at the first receive and anew at the first one
 /// after each `Quiet`. So under any traffic a `Quiet` comes once a wait, and after it the next
-/// receive looks at the socket. Who sent a datagram is not known.
+/// receive looks at the socket.
+///
+/// A daemon's socket takes datagrams from anywhere; who sent one is not known. That of a client or
+/// a shepherd is connected to the place of its first send: from then on the system hands it what
+/// comes from there alone. Word of the system that nobody is at that place fails no send, and a
+/// receive waits on to the end of its wait.
 #[derive(Drop)]
 pub struct UdpWire {
     rt: HostRuntime,
     socket: UdpSocket,
+    heard: Heard,
     site: Vec<SiteHost>,
     wait: Duration,
     began: Option<Instant>,
@@ -65,7 +82,7 @@ impl UdpWire {
         ensures { IfOk result (λ wire. (wire.receive_faults ≡ 0) × (wire.send_faults ≡ 0)) }
     {
         match site.get(host.0 as usize) {
-            Some(own) => UdpWire::bind(rt, at(own.address, own.port), site, wait),
+            Some(own) => UdpWire::bind(rt, at(own.address, own.port), Heard::All, site, wait),
             None => Err(no_such_host()),
         }
     }
@@ -75,12 +92,19 @@ impl UdpWire {
     pub fn of_client(rt: HostRuntime, site: &[SiteHost], wait: u64) -> io::Result<(UdpWire, u16)>
         ensures { IfOk result (λ made. (made.0.receive_faults ≡ 0) × (made.0.send_faults ≡ 0)) }
     {
-        let wire = UdpWire::bind(rt, at(Ipv4Addr::LOCALHOST, 0), site, wait)?;
+        let own = at(Ipv4Addr::LOCALHOST, 0);
+        let wire = UdpWire::bind(rt, own, Heard::Next, site, wait)?;
         let port = wire.socket.local_addr()?.port();
         Ok((wire, port))
     }
 
-    fn bind(rt: HostRuntime, own: SocketAddr, site: &[SiteHost], wait: u64) -> io::Result<UdpWire>
+    fn bind(
+        rt: HostRuntime,
+        own: SocketAddr,
+        heard: Heard,
+        site: &[SiteHost],
+        wait: u64,
+    ) -> io::Result<UdpWire>
         ensures { IfOk result (λ wire. (wire.receive_faults ≡ 0) × (wire.send_faults ≡ 0)) }
     {
         let socket = UdpSocket::bind(&rt, own)?;
@@ -89,6 +113,7 @@ impl UdpWire {
         Ok(UdpWire {
             rt,
             socket,
+            heard,
             site,
             wait: Duration::from_millis(wait.clamp(1, SECOND)),
             began: None,
@@ -108,9 +133,45 @@ impl UdpWire {
         }
     }
 
-    fn put(&self, to: Address, bytes: &[u8]) -> io::Result<usize> {
+    // Connects the socket of a client or a shepherd to this place, unless it is already.
+    fn meet(&mut self, place: SocketAddr) -> io::Result<()>
+        ensures receive_faults { self.new.receive_faults ≡ self.old.receive_faults }
+        ensures send_faults { self.new.send_faults ≡ self.old.send_faults }
+    {
+        let is_met = match self.heard {
+            Heard::All => true,
+            Heard::Next => false,
+            Heard::One(met) => met == place,
+        };
+        if !is_met {
+            self.socket.connect(place)?;
+            self.heard = Heard::One(place);
+        }
+        Ok(())
+    }
+
+    // Does the system take the datagram? Where it has word that nobody took an earlier one, it
+    // says so, and keeps this one back.
+    fn is_taken(&self, place: SocketAddr, bytes: &[u8]) -> io::Result<bool> {
+        match self.socket.send_to(bytes, place) {
+            Ok(_) => Ok(true),
+            Err(e) if e.kind() == ErrorKind::ConnectionRefused => Ok(false),
+            Err(e) => Err(e),
+        }
+    }
+
+    // A datagram that is kept back is sent once more. Where it is kept back again, nobody is there,
+    // and it is lost, as any may be.
+    fn put(&mut self, to: Address, bytes: &[u8]) -> io::Result<()>
+        ensures receive_faults { self.new.receive_faults ≡ self.old.receive_faults }
+        ensures send_faults { self.new.send_faults ≡ self.old.send_faults }
+    {
         let place = self.place_of(to)?;
-        self.socket.send_to(bytes, place)
+        self.meet(place)?;
+        if !self.is_taken(place, bytes)? {
+            self.is_taken(place, bytes)?;
+        }
+        Ok(())
     }
 
     // What is left of the wait; none where it is over.
@@ -130,18 +191,38 @@ impl UdpWire {
         Ok(left.filter(|left| *left >= Duration::from_millis(1)))
     }
 
+    // What the socket gives within this time. None: word that nobody took an earlier datagram.
+    fn look(&mut self, buf: &mut [u8], left: Duration) -> io::Result<Option<Received>>
+        ensures within { IfOk result (λ r. IfSome r (λ r. IsWithin r (length buf.new))) }
+        ensures same_length { length buf.new ≡ length buf.old }
+        ensures receive_faults { self.new.receive_faults ≡ self.old.receive_faults }
+        ensures send_faults { self.new.send_faults ≡ self.old.send_faults }
+    {
+        self.socket.set_read_timeout(Some(left))?;
+        match self.socket.recv_from(buf) {
+            Ok((count, _)) => Ok(Some(Received::Datagram(count))),
+            Err(e) if e.kind() == ErrorKind::ConnectionRefused => Ok(None),
+            Err(e) if is_quiet(e.kind()) => {
+                self.began = None;
+                Ok(Some(Received::Quiet))
+            }
+            Err(e) => Err(e),
+        }
+    }
+
+    // Word that nobody took an earlier datagram ends no wait.
     fn take(&mut self, buf: &mut [u8]) -> io::Result<Received>
         ensures within { IfOk result (λ r. IsWithin r (length buf.new)) }
         ensures same_length { length buf.new ≡ length buf.old }
         ensures receive_faults { self.new.receive_faults ≡ self.old.receive_faults }
         ensures send_faults { self.new.send_faults ≡ self.old.send_faults }
     {
-        if let Some(left) = self.left()? {
-            self.socket.set_read_timeout(Some(left))?;
-            match self.socket.recv_from(buf) {
-                Ok((count, _)) => return Ok(Received::Datagram(count)),
-                Err(e) if is_quiet(e.kind()) => {}
-                Err(e) => return Err(e),
+        for _ in 0..u32::MAX {
+            let Some(left) = self.left()? else {
+                break;
+            };
+            if let Some(received) = self.look(buf, left)? {
+                return Ok(received);
             }
         }
         self.began = None;
@@ -149,12 +230,9 @@ impl UdpWire {
     }
 }
 
-// A signal, or word that nobody took an earlier datagram, is no fault.
+// That the time is over is no fault, nor is a signal.
 fn is_quiet(kind: ErrorKind) -> bool {
-    matches!(
-        kind,
-        ErrorKind::WouldBlock | ErrorKind::Interrupted | ErrorKind::ConnectionRefused
-    )
+    matches!(kind, ErrorKind::WouldBlock | ErrorKind::Interrupted)
 }
 
 impl Wire for UdpWire {

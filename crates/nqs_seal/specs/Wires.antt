@@ -1,5 +1,5 @@
 -- What the wires of a site tell: under its key, and open or under it.
-use Rattle.std.specs.Prelude.{ℕ, ◌+◌, List, [], ◌∷◌}
+use Rattle.std.specs.Prelude.{◌≡◌, ℕ, ◌+◌, List, [], ◌∷◌, false}
 use Rattle.std.specs.Option.{option_map}
 use Rattle.std.specs.declared.option.Option.{Option}
 use Rattle.nqs_outside.specs.Asked.{packet, Traffic, outbound}
@@ -8,6 +8,8 @@ use Rattle.nqs_outside.specs.declared.wire.Address.{Address}
 use Rattle.nqs_outside.specs.declared.wire.Wire as wires
 use Rattle.nqs_seal.specs.Sealed.{opened, sealed, unless}
 use Rattle.nqs_seal.specs.declared.sealed.SealedWire.{SealedWire}
+use Rattle.nqs_seal.specs.declared.site.SiteKey.{SiteKey}
+use Rattle.nqs_seal.specs.declared.site.SiteKey.TheVariants as keys
 use Rattle.nqs_seal.specs.declared.site.SiteWire.{SiteWire}
 use Rattle.nqs_seal.specs.declared.site.SiteWire.TheVariants.{Open, Sealed}
 
@@ -43,3 +45,11 @@ module _ {W : Type 0} {g : wires.Ghosts W} where
   abbrev pub site_sends : SiteWire W g → ℕ
   site_sends (Open wire) = g.send_faults wire
   site_sends (Sealed wire) = sends_of wire
+
+  -- of a site whose key's file says this, over this wire: the wire itself, or a new one under the key
+  abbrev pub IsUnder : SiteKey → W → SiteWire W g → Type 0
+  IsUnder keys.Open inner (Open wire) = wire ≡ inner
+  IsUnder keys.Open inner (Sealed wire) = ⊥
+  IsUnder (keys.Sealed key) inner (Open wire) = ⊥
+  IsUnder (keys.Sealed key) inner (Sealed wire) =
+      (wire.inner ≡ inner) × (wire.key ≡ key) × (wire.starved ≡ false) × (wire.receive_faults ≡ 0) × (wire.send_faults ≡ 0)

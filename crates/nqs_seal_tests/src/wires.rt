@@ -5,7 +5,7 @@ ghost use Rattle.std.specs.Prelude.{◌≡◌, ◌<◌, length};
 use nqs_base::{Bytes, Items, Memory};
 use nqs_fakes::{Item, Kept, MemWire};
 use nqs_outside::{Address, Received, Wire};
-use nqs_seal::{Key, SealedWire, SiteWire};
+use nqs_seal::{Key, SealedWire, SiteKey, SiteWire};
 use nqs_types::HostId;
 use std::alloc::Global;
 use std::rt::HostRuntime;
@@ -188,5 +188,26 @@ fn a_sealed_site_hears_its_own(rt: HostRuntime) -> Result<(), Fail> {
     let quiet = is_quiet(&mut closed, &mut buf);
     drop(closed);
     assert_eq!(rt; [own, sent, quiet], [true; 3]);
+    Ok(())
+}
+
+// Over one wire each: as the file of the key says, plain or with the tag of its key.
+#[test]
+fn a_site_is_as_its_key_says(rt: HostRuntime) -> Result<(), Fail> {
+    let alloc = rt.alloc();
+    let mut buf = vec![in alloc; 0u8; 49_185]?;
+    let mut open = SiteWire::new(alloc, inner(alloc, &[b"an answer"])?, SiteKey::Open)?;
+    let plain = brings(&mut open, &mut buf, b"an answer");
+    let key = SiteKey::Sealed(Key::new([7; 32]));
+    let mut under = SiteWire::new(
+        alloc,
+        inner(alloc, &[b"an answer", &STRANGE, &ANSWER])?,
+        key,
+    )?;
+    let opened = brings(&mut under, &mut buf, b"an answer");
+    let quiet = is_quiet(&mut under, &mut buf);
+    drop(open);
+    drop(under);
+    assert_eq!(rt; [plain, opened, quiet], [true; 3]);
     Ok(())
 }

@@ -202,8 +202,8 @@ fn serve_lent<D: Disk, W: Wire, L: Launcher, P: Printer, O: Outlet, C: Clock, N:
     turns_in(me, node, lent, room, turns)
 }
 
-/// The longest datagram, and one byte more: what fills the room was cut.
-const ROOM: usize = 49_153;
+/// The longest datagram with its tag, and one byte more: what fills the room was cut.
+const ROOM: usize = 49_185;
 
 /// Serves a host: takes what comes, turn by turn, at most so many. A turn is a receive, the event
 /// that it brought with the starts after it, and the events that come back of what went out. Where

@@ -1,0 +1,68 @@
+//! The socket as a wire: whom a client hears, and what it does where nobody is.
+
+use crate::real::{HOST, site_of_alpha};
+use nqs_outside::{Address, Received, Wire};
+use nqs_real::UdpWire;
+use std::rt::HostRuntime;
+use std::test::Fail;
+use std::time::{Duration, Instant};
+
+// A stranger's answers come before and behind that of the daemon.
+fn beside_a_stranger(rt: &HostRuntime) -> Result<[bool; 7], Fail> {
+    let site = site_of_alpha(rt)?;
+    let mut daemon = UdpWire::of_daemon(*rt, &site, HOST, 200)?;
+    let (mut client, port) = UdpWire::of_client(*rt, &site, 200)?;
+    let (mut stranger, _) = UdpWire::of_client(*rt, &site, 200)?;
+    let mut buf = vec![in rt.alloc(); 0u8; 49_185]?;
+    Ok([
+        client.send(Address::Host(HOST), b"ask") == Ok(()),
+        daemon.receive(&mut buf) == Ok(Received::Datagram(3)),
+        stranger.send(Address::Client(port), b"a stranger") == Ok(()),
+        daemon.send(Address::Client(port), b"answers") == Ok(()),
+        stranger.send(Address::Client(port), b"a stranger") == Ok(()),
+        client.receive(&mut buf) == Ok(Received::Datagram(7)) && buf.starts_with(b"answers"),
+        client.receive(&mut buf) == Ok(Received::Quiet),
+    ])
+}
+
+#[test]
+fn a_client_hears_its_daemon_alone(rt: HostRuntime) -> Result<(), Fail> {
+    assert_eq!(rt; beside_a_stranger(&rt)?, [true; 7]);
+    Ok(())
+}
+
+// Whether a receive is quiet, and only after its wait of 200 milliseconds.
+fn waits(rt: &HostRuntime, client: &mut UdpWire) -> Result<bool, Fail> {
+    let mut buf = vec![in rt.alloc(); 0u8; 49_185]?;
+    let began = Instant::now(rt)?;
+    let is_quiet = client.receive(&mut buf) == Ok(Received::Quiet);
+    let took = Instant::now(rt)?.saturating_duration_since(began);
+    Ok(is_quiet && took >= Duration::from_millis(150))
+}
+
+// Nobody is where the client sends to, twice, and then its daemon is.
+fn before_its_daemon(rt: &HostRuntime) -> Result<[bool; 6], Fail> {
+    let site = site_of_alpha(rt)?;
+    let (mut client, _) = UdpWire::of_client(*rt, &site, 200)?;
+    let first = client.send(Address::Host(HOST), b"to nobody") == Ok(());
+    let waits_first = waits(rt, &mut client)?;
+    let second = client.send(Address::Host(HOST), b"to nobody") == Ok(());
+    let mut daemon = UdpWire::of_daemon(*rt, &site, HOST, 200)?;
+    let third = client.send(Address::Host(HOST), b"ask") == Ok(());
+    let mut buf = vec![in rt.alloc(); 0u8; 49_185]?;
+    let comes = daemon.receive(&mut buf) == Ok(Received::Datagram(3)) && buf.starts_with(b"ask");
+    Ok([
+        first,
+        waits_first,
+        second,
+        third,
+        comes,
+        waits(rt, &mut client)?,
+    ])
+}
+
+#[test]
+fn nobody_is_no_fault(rt: HostRuntime) -> Result<(), Fail> {
+    assert_eq!(rt; before_its_daemon(&rt)?, [true; 6]);
+    Ok(())
+}
