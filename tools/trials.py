@@ -92,7 +92,7 @@ class Client:
 
     def ask(self, tool, words=(), script=b"", user=b"root"):
         self.token += 1
-        text = struct.pack(">BBBBHQ", 1, 10, 0, 0, self.port, self.token)
+        text = struct.pack(">BBBBHQ", 2, 10, 0, 0, self.port, self.token)
         text += bytes([len(user)]) + user + bytes([tool]) + struct.pack(">H", len(words))
         for word in words:
             text += struct.pack(">I", len(word)) + word

@@ -99,7 +99,6 @@ module _ {E F : Type 0} (f : E → F) (s : State E) (h : IsInOrder s) where
     complexes = h.complexes;
     rows = all-mapped (is_row_right s) (is_row_right t) (map_row f) row_stays s.rows h.rows;
     promises = all-mapped (is_promise_right s) (is_promise_right t) (map_promise f) promise_stays s.promises h.promises;
-    promisers = ap (are_distinct same_host) (map-map (λ p. p.peer) (map_promise f) s.promises) ∙ h.promisers;
     hands = list_all-weaker (is_hand_right s) (is_hand_right t) hand_stays s.hands h.hands;
     few = h.few;
     offers = h.offers;
