@@ -162,21 +162,22 @@ asked job script = command.Submit (record { queue = None; job = job; script = sc
 -- commands within their limits
 abbrev pub kept_commands : List Command
 kept_commands =
-    asked pathed (bytes 32768) ∷ command.Edit (Limits (SetGlobalLimit 10000)) ∷ command.Stat None [] ∷ command.Delete (named 0 (codes "h")) true
+    asked pathed (bytes 32769) ∷ command.Edit (Limits (SetGlobalLimit 10000)) ∷ command.Stat None [] ∷ command.Delete (named 0 (codes "h")) true
     ∷ command.Show 0 ∷ command.Shutdown ∷ command.Tick
     ∷ command.UnreadLine (grammar.Extra 1) ∷ command.UnreadWords (bad_words words_cause.Missing 0 1) ∷ []
 
 -- commands beyond them
 abbrev pub lost_commands : List Command
-lost_commands = asked pathed (bytes 32769) ∷ asked (record pathed { priority = 64 }) [] ∷ command.Edit (Limits (SetGlobalLimit 10001)) ∷ []
+lost_commands = asked (record pathed { priority = 64 }) [] ∷ command.Edit (Limits (SetGlobalLimit 10001)) ∷ []
 
 -- datagrams within their limits, in a site of two
 abbrev pub kept_bodies : List Body
 kept_bodies =
-    body.Offer 1 1 (codes "q") far_carried (bytes 32768) ∷ body.Offer 7 1 (codes "q") far_carried [] ∷ body.Offer 7 7 (codes "q") far_carried []
+    body.Offer 1 1 (codes "q") far_carried (bytes 32769) ∷ body.Offer 7 1 (codes "q") far_carried [] ∷ body.Offer 7 7 (codes "q") far_carried []
     ∷ body.Ready 1 ∷ body.Refused 1 3 ∷ body.Commit 1 ∷ body.Done 1 ∷ body.Inquire 1 ∷ body.Abort 1
     ∷ body.Stage 1 (codes "o") (bytes 32768) ∷ body.Staged 1
-    ∷ body.Ask 1 1 (codes "ann") Qmgr [] [] ∷ body.Answer 1 true [] ∷ body.Ended 1 (request 1 0) 1 0 [] [] ∷ body.EndedAck (request 1 0) 1 ∷ []
+    ∷ body.Ask 1 1 (codes "ann") Qmgr [] [] ∷ body.Answer 1 true [] ∷ body.Ended 1 (request 1 0) 1 0 [] [] ∷ body.EndedAck (request 1 0) 1
+    ∷ body.Piece 1 0 7 0 2 [] ∷ []
 
 -- datagrams beyond them
 abbrev pub lost_bodies : List Body
@@ -184,7 +185,7 @@ lost_bodies =
     body.Offer 0 0 (codes "q") far_carried [] ∷ body.Offer 7 0 (codes "q") far_carried [] ∷ body.Offer 7 8 (codes "q") far_carried []
     ∷ body.Offer 1 1 (codes "q") (record far_carried { hops = 33 }) []
     ∷ body.Offer 1 1 (codes "q") (record far_carried { id = request 3 2 }) []
-    ∷ body.Offer 1 1 (codes "q") far_carried (bytes 32769) ∷ body.Refused 0 3 ∷ body.Refused 1 4 ∷ body.Stage 0 (codes "o") [] ∷ body.Stage 1 bad_path []
+    ∷ body.Refused 0 3 ∷ body.Refused 1 4 ∷ body.Stage 0 (codes "o") [] ∷ body.Stage 1 bad_path []
     ∷ body.Stage 1 (codes "o") (bytes 32769) ∷ []
 
 -- a datagram from a host, in a site of two
