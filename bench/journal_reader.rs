@@ -171,7 +171,7 @@ fn host(fields: &mut Fields) -> Host {
     assert_eq!((fields.number(8), fields.number(8)), (0, 0), "complexes and devices");
     let requests = fields.list(|f| Some(request(f)));
     assert_eq!((fields.number(8), fields.number(8)), (0, 0), "handovers and promises");
-    let _peers = fields.list(|f| f.take(40).len());
+    let _peers = fields.list(|f| (f.take(16).len(), f.list(|g| g.number(8)), f.take(24).len()));
     assert_eq!((fields.number(8), fields.number(8)), (0, 0), "stages and files");
     let _managers = fields.list(Fields::name);
     let _operators = fields.list(Fields::name);
@@ -238,7 +238,7 @@ fn read(folder: &Path) -> Result<(usize, usize, usize)> {
     let root = fs::read(folder.join("root"))?;
     let second = root.first().is_some_and(|byte| byte % 2 == 1);
     let bytes = fs::read(folder.join(if second { "second" } else { "first" }))?;
-    assert_eq!(&bytes[..16], b"NQS-SNAPSHOT-v1\n", "a journal with a snapshot");
+    assert_eq!(&bytes[..16], b"NQS-SNAPSHOT-v2\n", "a journal with a snapshot");
     let mut fields = Fields { bytes: &bytes, place: 16 };
     let length = fields.number(8) as usize;
     let mut host = host(&mut Fields { bytes: fields.take(length), place: 0 });

@@ -45,7 +45,7 @@ fn deletion(number: u64) -> Ask {
 }
 
 fn datagram_of(ask: &Ask, port: u16, token: u64) -> Vec<u8> {
-    let mut datagram = vec![1, 10, 0, 0];
+    let mut datagram = vec![2, 10, 0, 0];
     datagram.extend(port.to_be_bytes());
     datagram.extend(token.to_be_bytes());
     datagram.push(ask.user.len() as u8);

@@ -79,10 +79,11 @@ def opened(datagram, key):
 
 
 class Client:
-    """A client that stays: it asks a daemon by datagrams, which have a tag where there is a key."""
+    """A client that stays: it asks the daemon of the host at a place of the site by datagrams, which
+    have a tag where there is a key."""
 
-    def __init__(self, port, wait=5.0, key=None):
-        self.key = key
+    def __init__(self, port, wait=5.0, key=None, place=0):
+        self.key, self.place = key, place
         self.socket = socket.socket(socket.AF_INET, socket.SOCK_DGRAM)
         self.socket.bind(("127.0.0.1", 0))
         self.socket.settimeout(wait)
@@ -92,7 +93,7 @@ class Client:
 
     def ask(self, tool, words=(), script=b"", user=b"root"):
         self.token += 1
-        text = struct.pack(">BBBBHQ", 1, 10, 0, 0, self.port, self.token)
+        text = struct.pack(">BBBBHQ", 2, 10, 0, self.place, self.port, self.token)
         text += bytes([len(user)]) + user + bytes([tool]) + struct.pack(">H", len(words))
         for word in words:
             text += struct.pack(">I", len(word)) + word

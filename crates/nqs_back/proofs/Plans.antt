@@ -69,7 +69,7 @@ bare_done done plan is s = ap (λ (p : Plan). after_change (option_map blank p.c
 -- outputs
 
 pub sent_twice : (a b : List ℕ) (x : Body) → sent_with a (sent_with b x) ≡ sent_with a x
-sent_twice a b (body.Offer n queue c script) = refl
+sent_twice a b (body.Offer n low queue c script) = refl
 sent_twice a b (body.Ready n) = refl
 sent_twice a b (body.Refused n refusal) = refl
 sent_twice a b (body.Stage n path bytes) = refl

@@ -3,10 +3,12 @@
 //! host is filled through a reference, and let go by `drop`.
 #![tactic(auto)]
 
-use nqs_base::{Bytes, Extent, Key, Keyed, ListOf, Memory, Name, Spare};
+use nqs_base::{Bytes, Extent, Items, Key, Keyed, ListOf, Memory, Name, Spare};
 use nqs_base_tables::Table;
 use nqs_state::{HostState, Rows};
-use nqs_types::{Access, Hold, HostId, Job, Kind, Limits, QueueDef, RequestId, Row, RowState};
+use nqs_types::{
+    Access, Hold, HostId, Job, Kind, Limits, Peer, QueueDef, RequestId, Row, RowState,
+};
 use std::alloc::Global;
 
 /// No limit of processor time and none of memory.
@@ -78,6 +80,19 @@ pub fn row(alloc: Global, seq: u32, queue: Name, owner: Name) -> Row {
     }
 }
 
+/// What is known of a host to which the next handover and the next stage have these numbers, and of
+/// which no number is closed.
+pub fn peer(alloc: Global, next: u64, stage_next: u64) -> Peer {
+    Peer {
+        next,
+        floor: 0,
+        closed: ListOf::new(alloc),
+        wait: 0,
+        stage_next,
+        stage_got: 0,
+    }
+}
+
 /// The first host of a site, with the parameters that a host has at first and nothing else, not
 /// even its site.
 pub fn host(alloc: Global) -> HostState {
@@ -90,7 +105,7 @@ pub fn host(alloc: Global) -> HostState {
         rows: Rows::new(alloc),
         hands: Table::new(alloc),
         promises: Table::new(alloc),
-        peers: ListOf::new(alloc),
+        peers: Items::new(alloc),
         stages: Table::new(alloc),
         files: Table::new(alloc),
         managers: ListOf::new(alloc),
@@ -105,6 +120,7 @@ pub fn host(alloc: Global) -> HostState {
         spare_names: Spare::new(alloc),
         spare_dests: Spare::new(alloc),
         spare_refused: Spare::new(alloc),
+        spare_closed: Spare::new(alloc),
     }
 }
 

@@ -1,4 +1,6 @@
+pub mod Closed
 pub mod Fresh
+pub mod Joined
 pub mod Places
 pub mod Losses
 pub mod Refused

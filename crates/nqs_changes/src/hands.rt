@@ -1,13 +1,13 @@
 //! Changes of handovers, from the side of the host that hands over.
 
 ghost use Rattle.std.specs.Prelude.{◌≡◌, ◌+◌, ◌<◌, ◌≤◌, ◌^◌, false, find, length, IsTrue};
-ghost use Rattle.std.specs.List.{list_any};
 ghost use Rattle.nqs_state.specs.State.{content};
 ghost use Rattle.nqs_state.specs.Keys.{is_hand};
 ghost use Rattle.nqs_state.specs.Room.{hand_refusals};
-ghost use Rattle.nqs_rules.specs.Tests.{last_u64};
-ghost use Rattle.nqs_rules.specs.Find.{find_hand};
-ghost use Rattle.nqs_rules.specs.Routing.{is_hand_to};
+ghost use Rattle.nqs_rules.specs.Tests.{passes, last_u64};
+ghost use Rattle.nqs_rules.specs.Find.{find_hand, find_peer};
+ghost use Rattle.nqs_rules.specs.Fits.{is_next};
+ghost use Rattle.nqs_rules.specs.InOrder.{IsInOrder};
 ghost use Rattle.nqs_rules.specs.Applied.{committed, drop_hand, hand_opened, hand_committed, hand_refused, hand_silent, hands_silent};
 ghost use Rattle.nqs_types.specs.declared.ids.PeerNumber.{PeerNumber};
 
@@ -23,11 +23,12 @@ fn find_hand(state: &HostState, key: &PeerNumber) -> Option<Hand>
     state.hands.get(key).copied()
 }
 
-/// A handover is opened: its request is on its way.
+/// A handover is opened under the next number of its peer: its request is on its way.
 pub fn opened(state: &mut HostState, hand: Hand)
     requires room { 0 < state.old.hands.spare }
     requires number { hand.number < last_u64 }
-    requires alone { list_any (is_hand_to hand.peer) state.old.hands.items ≡ false }
+    requires order { IsInOrder (content state.old) }
+    requires next { IsTrue (passes (is_next hand.number) (find_peer hand.peer (content state.old))) }
     requires phase { hand.phase ≡ Phase.Offered }
     ensures { content state.new ≡ hand_opened hand.peer hand.number hand.id hand.queue hand.since (content state.old) }
 {

@@ -123,7 +123,8 @@ pub trait Machine: Notices {
     ) -> Result<DaemonParts<Self::D, Self::W, Self::L, Self::P, Self::O, Self::C>, MachineEnd>
         ensures quiet { IsTrue Self.D.tells → IfOk result (λ parts. (which : Which) → IsQuiet (histories_of Self.D.history parts.disks which)) }
         ensures hands { HandsOver (told self.old) (told self.new) (λ parts. daemon_of dir.now host
-            (daemon_told Self.D.Disk Self.W.Wire Self.L.Launcher Self.P.Printer Self.O.Outlet Self.C.Clock parts.disks parts.around)) MachineEnd.Failed result };
+            (daemon_told Self.D.Disk Self.W.Wire Self.L.Launcher Self.P.Printer Self.O.Outlet Self.C.Clock parts.disks parts.around))
+            MachineEnd.Failed result };
 
     /// The wire of a client, and its port.
     fn client(&mut self, dir: &str) -> Result<(Self::W, u16), MachineEnd>

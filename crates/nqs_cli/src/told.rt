@@ -12,7 +12,7 @@ use std::io;
 use std::io::ErrorKind;
 use std::rt::HostRuntime;
 
-/// Where the headers of both forms of a journal say their version.
+/// Where the headers of a journal's forms say their version.
 const VERSIONS: [u64; 2] = [13, 14];
 
 /// How long such a header is, in bytes.
@@ -158,12 +158,15 @@ pub(crate) fn tell_others(
     Ok(())
 }
 
-/// Says that a host starts, how many requests it has, and what its boot said.
+/// Says that a host starts, how many requests it has, and what its boot said. The version is that
+/// of the disks that its checkpoints write, whatever it has read.
 pub(crate) fn tell_start(rt: &HostRuntime, state: &HostState, said: &[Output]) -> io::Result<()> {
     let names = state.site.as_slice();
     let host = name_text(names.get(state.me.0 as usize));
     let count = state.rows.len();
-    let text = format!(in rt.alloc(); "{host} starts over disks of version 1, requests: {count}")?;
+    let text = format!(in rt.alloc();
+        "{host} starts, writes disks of version 2, requests: {count}"
+    )?;
     tell(rt, &text);
     tell_boot(rt, names, said);
     Ok(())

@@ -11,30 +11,30 @@ use std::test::Fail;
 
 // An ASK of qstat, from port 9, with the token 5, for ann.
 static ASK: [u8; 25] = [
-    1, 10, 0, 0, 0, 9, 0, 0, 0, 0, 0, 0, 0, 5, 3, b'a', b'n', b'n', 2, 0, 0, 0, 0, 0, 0,
+    2, 10, 0, 0, 0, 9, 0, 0, 0, 0, 0, 0, 0, 5, 3, b'a', b'n', b'n', 2, 0, 0, 0, 0, 0, 0,
 ];
 
 // An ANSWER with the token 5, another with the token 6, and one that refuses.
 static ANSWER: [u8; 20] = [
-    1, 11, 0, 0, 0, 0, 0, 0, 0, 0, 0, 5, 1, 0, 0, 0, 3, b'o', b'k', 10,
+    2, 11, 0, 0, 0, 0, 0, 0, 0, 0, 0, 5, 1, 0, 0, 0, 3, b'o', b'k', 10,
 ];
 
 static OTHER_ANSWER: [u8; 20] = [
-    1, 11, 0, 0, 0, 0, 0, 0, 0, 0, 0, 6, 1, 0, 0, 0, 3, b'n', b'o', 10,
+    2, 11, 0, 0, 0, 0, 0, 0, 0, 0, 0, 6, 1, 0, 0, 0, 3, b'n', b'o', 10,
 ];
 
 static REFUSAL: [u8; 20] = [
-    1, 11, 0, 0, 0, 0, 0, 0, 0, 0, 0, 5, 0, 0, 0, 0, 3, b'n', b'o', 10,
+    2, 11, 0, 0, 0, 0, 0, 0, 0, 0, 0, 5, 0, 0, 0, 0, 3, b'n', b'o', 10,
 ];
 
 // An ENDEDACK of the first start of the request 7 of this host, and one of its second.
-static ACK: [u8; 11] = [1, 13, 0, 0, 0, 0, 0, 7, 0, 0, 1];
+static ACK: [u8; 11] = [2, 13, 0, 0, 0, 0, 0, 7, 0, 0, 1];
 
-static OTHER_ACK: [u8; 11] = [1, 13, 0, 0, 0, 0, 0, 7, 0, 0, 2];
+static OTHER_ACK: [u8; 11] = [2, 13, 0, 0, 0, 0, 0, 7, 0, 0, 2];
 
 // The ENDED of the first, with status 3, the output `42` and no error output.
 static ENDED: [u8; 24] = [
-    1, 12, 0, 0, 0, 9, 0, 0, 0, 7, 0, 0, 1, 3, 0, 0, 0, 2, b'4', b'2', 0, 0, 0, 0,
+    2, 12, 0, 0, 0, 9, 0, 0, 0, 7, 0, 0, 1, 3, 0, 0, 0, 2, b'4', b'2', 0, 0, 0, 0,
 ];
 
 fn alpha() -> Name {
@@ -145,7 +145,7 @@ fn writes_the_answer(rt: HostRuntime) -> Result<(), Fail> {
     let alloc = rt.alloc();
     let mut wire = wire(
         alloc,
-        &[&[], &OTHER_ANSWER, &ACK, &[1, 11], &ANSWER, &REFUSAL],
+        &[&[], &OTHER_ANSWER, &ACK, &[2, 11], &ANSWER, &REFUSAL],
     )?;
     let errand = errand(alloc, "qstat", &["ann"])?;
     let ended = ends(alloc, errand, &[], &mut wire, (NqsStatus::Done, b"ok\n"));

@@ -14,10 +14,10 @@ use std::test::Fail;
 // An ANSWER with the token 5 and the text `ok`, and an ENDEDACK of the first start of the request
 // 7.
 static ANSWER: [u8; 20] = [
-    1, 11, 0, 0, 0, 0, 0, 0, 0, 0, 0, 5, 1, 0, 0, 0, 3, b'o', b'k', 10,
+    2, 11, 0, 0, 0, 0, 0, 0, 0, 0, 0, 5, 1, 0, 0, 0, 3, b'o', b'k', 10,
 ];
 
-static ACK: [u8; 11] = [1, 13, 0, 0, 0, 0, 0, 7, 0, 0, 1];
+static ACK: [u8; 11] = [2, 13, 0, 0, 0, 0, 0, 7, 0, 0, 1];
 
 // How the program ends, what it writes, and how much it was lent and gave back: a site's names and
 // a look at its disks count as lent, and don't come back.

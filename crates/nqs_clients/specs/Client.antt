@@ -82,9 +82,11 @@ abbrev pub EndsFor : ℕ → HostId → Asking → Fed → Wired → Sunk → Nq
 EndsFor port host e source wire sink status.Done = EndsScripted port host e source wire sink status.Done
 EndsFor port host e source wire sink status.Refused = EndsRefused e source wire sink status.Refused ⊎ EndsScripted port host e source wire sink status.Refused
 EndsFor port host e source wire sink status.ReadFault = (e.tool ≡ Qsub) × Rose source.faults source.faults_now × IsSilent wire × IsUnwritten sink
-EndsFor port host e source wire sink status.WriteFault = EndsRefused e source wire sink status.WriteFault ⊎ EndsScripted port host e source wire sink status.WriteFault
+EndsFor port host e source wire sink status.WriteFault = EndsRefused e source wire sink status.WriteFault
+    ⊎ EndsScripted port host e source wire sink status.WriteFault
 EndsFor port host e source wire sink status.NoAnswer = EndsScripted port host e source wire sink status.NoAnswer
 EndsFor port host e source wire sink status.WireFault = EndsScripted port host e source wire sink status.WireFault
-EndsFor port host e source wire sink (status.Memory memory) = (IsSilent wire × IsUnwritten sink) ⊎ EndsScripted port host e source wire sink (status.Memory memory)
+EndsFor port host e source wire sink (status.Memory memory) = (IsSilent wire × IsUnwritten sink)
+    ⊎ EndsScripted port host e source wire sink (status.Memory memory)
 EndsFor port host e source wire sink (status.Unread unread) = EndsScripted port host e source wire sink (status.Unread unread)
 EndsFor port host e source wire sink _ = ⊥

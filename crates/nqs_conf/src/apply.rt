@@ -11,7 +11,7 @@ ghost use Rattle.nqs_rules.specs.Find.{has_queue};
 ghost use Rattle.nqs_rules.specs.Format.{new_queue};
 
 use crate::create::{Created, create_queue};
-use crate::dest::{created_dest, dest_list, drop_dest, meant_dest};
+use crate::dest::{created_dest, dest_list, drop_dest, meant_dest, put_first};
 use nqs_access::drop_name;
 use nqs_base::{ListOf, Name};
 use nqs_state::HostState;
@@ -111,6 +111,21 @@ fn remove_destination(state: &mut HostState, destination: &NamedDest, queue: &Na
         return;
     };
     state.queues.change(queue, |def: &mut QueueDef| drop_dest(&mut def.dests, &dest));
+}
+
+fn first_destination(state: &mut HostState, destination: &NamedDest, queue: &Name)
+    requires site { length state.old.site ≤ 16 }
+    requires check { first_refusal (conf_causes (ConfEdit.FirstDestination destination.now queue.now) (content state.old)) ≡ Ok tt }
+    ensures { content state.new ≡ conf_applied (ConfEdit.FirstDestination destination.now queue.now) (content state.old) }
+{
+    let Some(dest) = meant_dest(state, destination) else {
+        return;
+    };
+    let alloc = state.queues.allocator();
+    state.queues.change(
+        queue,
+        |def: &mut QueueDef| put_first(alloc, &mut def.dests, dest),
+    );
 }
 
 fn create_plain_queue(state: &mut HostState, created: Created)
@@ -223,6 +238,9 @@ pub fn apply_conf(state: &mut HostState, edit: ConfEdit)
         }
         ConfEdit::RemoveDestination { destination, queue } => {
             remove_destination(state, &destination, &queue)
+        }
+        ConfEdit::FirstDestination { destination, queue } => {
+            first_destination(state, &destination, &queue)
         }
         ConfEdit::SetDefaultQueue { queue } => state.default_queue = Some(queue),
         ConfEdit::SetNoDefaultQueue => state.default_queue = None,

@@ -4,7 +4,7 @@ ghost use Rattle.nqs_state.specs.State.{content};
 ghost use Rattle.nqs_types.specs.declared.edit.ConfEdit.{ConfEdit};
 ghost use Rattle.nqs_types.specs.declared.refusal.Refusal.TheVariants as refusal;
 ghost use Rattle.nqs_rules.specs.Causes.{cause, first_refusal};
-ghost use Rattle.nqs_rules.specs.Conf.{conf_causes, create_causes, create_pipe_causes, has_full_dests, is_pipe_queue, lists_dest, no_host_cause, promise_in};
+ghost use Rattle.nqs_rules.specs.Conf.{conf_causes, create_causes, create_pipe_causes, has_full_dests, is_pipe_queue, listed_dest_causes, lists_dest, no_host_cause, promise_in};
 ghost use Rattle.nqs_rules.specs.Conf.{row_in};
 ghost use Rattle.nqs_rules.specs.Find.{held_count, meant_dest};
 
@@ -99,7 +99,7 @@ fn check_new_dest(state: &HostState, def: &QueueDef, typed: &NamedDest) -> Resul
     Ok(())
 }
 
-// Why the destination isn't taken from the queue.
+// Why the destination is none of the queue.
 fn check_listed_dest(state: &HostState, def: &QueueDef, typed: &NamedDest) -> Result<(), Refusal>
     requires { length state.now.site ≤ 16 }
     ensures { result ≡ first_refusal (cause (not (is_pipe_queue def.now)) refusal.WrongKind
@@ -128,13 +128,13 @@ fn check_add_destination(
     }
 }
 
-fn check_remove_destination(
+fn check_destination(
     state: &HostState,
     destination: &NamedDest,
     queue: &Name,
 ) -> Result<(), Refusal>
     requires { length state.now.site ≤ 16 }
-    ensures { result ≡ first_refusal (conf_causes (ConfEdit.RemoveDestination destination.now queue.now) (content state.now)) }
+    ensures { result ≡ first_refusal (listed_dest_causes destination.now queue.now (content state.now)) }
 {
     match state.queues.get(queue) {
         None => Err(Refusal::NoQueue(*queue)),
@@ -145,8 +145,8 @@ fn check_remove_destination(
 /// Whether the edit may be made: `Ok`, or the first of these that holds. A creation: `NoHost` of
 /// its destination, `QueueExists`, `TooMany` at 256 queues. A deletion: `NoQueue`, `QueueInUse`
 /// with the number of its requests and promises. A destination that is added: `NoQueue`, `NoHost`,
-/// `WrongKind` for all but pipe queues, `DestExists`, `TooMany` at 16; one that is removed:
-/// `NoQueue`, `WrongKind`, `NoDest`, also for an unknown host. The other edits of a queue:
+/// `WrongKind` for all but pipe queues, `DestExists`, `TooMany` at 16; one that is removed, or put
+/// first: `NoQueue`, `WrongKind`, `NoDest`, also for an unknown host. The other edits of a queue:
 /// `NoQueue`. Those of parameters are never refused.
 ///
 /// `site` and `held` hold of each state in order: at most 16 hosts, and at most 10,000 requests and
@@ -176,7 +176,10 @@ pub fn check_conf(state: &HostState, edit: &ConfEdit) -> Result<(), Refusal>
             check_add_destination(state, destination, queue)
         }
         ConfEdit::RemoveDestination { destination, queue } => {
-            check_remove_destination(state, destination, queue)
+            check_destination(state, destination, queue)
+        }
+        ConfEdit::FirstDestination { destination, queue } => {
+            check_destination(state, destination, queue)
         }
         ConfEdit::SetDefaultQueue { queue } => known_queue(state, queue),
         ConfEdit::SetNoDefaultQueue => Ok(()),

@@ -1,6 +1,7 @@
 //! Hosts and destinations as they are typed, and what is meant by them.
-ghost use Rattle.std.specs.Prelude.{◌≡◌, ◌<◌, ◌≤◌, ◌∷◌, [], filter, length, not};
+ghost use Rattle.std.specs.Prelude.{◌≡◌, ◌<◌, ◌≤◌, ◌∷◌, [], true, filter, length, not, position};
 ghost use Rattle.std.specs.List.{list_any};
+ghost use Rattle.nqs_base_tables.specs.Table.{without_first};
 ghost use Rattle.nqs_state.specs.State.{content};
 ghost use Rattle.nqs_rules.specs.Causes.{first_refusal};
 ghost use Rattle.nqs_rules.specs.Conf.{lists_dest, no_host_cause, dest_list, created_dests};
@@ -11,6 +12,7 @@ use nqs_base::{ListOf, Name, Spare, place_of};
 use nqs_state::HostState;
 use nqs_types::{Dest, DestList, HostId, NamedDest, QueueDef, Refusal};
 use std::alloc::Global;
+use std::mem::replace;
 
 /// Whether the site has a host of this name: `NoHost` where it has none.
 pub(crate) fn known_host(state: &HostState, host: &Name) -> Result<(), Refusal>
@@ -63,6 +65,27 @@ pub(crate) fn drop_dest(dests: &mut DestList, dropped: &Dest)
     ensures { dests.new ≡ filter (λ other. not (same_dest dropped.now other)) dests.old }
 {
     dests.keep(|other: &Dest| !same_dest(dropped, other));
+}
+
+fn place_of_dest(dests: &[Dest], wanted: &Dest) -> Option<usize>
+    ensures { result ≡ position (same_dest wanted.now) dests.now }
+{
+    dests
+        .iter()
+        .position(|other: &Dest| same_dest(wanted, other))
+}
+
+/// Puts a destination first that the list has. The others keep their order, and no memory is taken.
+pub(crate) fn put_first(alloc: Global, dests: &mut DestList, dest: Dest)
+    ensures { list_any (same_dest dest) dests.old ≡ true → dests.new ≡ dest ∷ without_first (same_dest dest) dests.old }
+{
+    let Some(place) = place_of_dest(dests.as_slice(), &dest) else {
+        return;
+    };
+    let mut items = replace(dests, ListOf::new(alloc)).into_vec();
+    items.remove(place);
+    items.insert(0, dest).unwrap();
+    *dests = ListOf::from_vec(items);
 }
 
 /// The destination that a pipe queue is created with, if any.

@@ -1,4 +1,4 @@
-//! Journals of either form: texts by hand, whole, cut short at every byte, and with one byte wrong;
+//! Journals of all forms: texts by hand, whole, cut short at every byte, and with one byte wrong;
 //! a journal that was begun by a snapshot; a disk whose reads fail.
 ghost use Rattle.std.specs.Prelude.{◌≡◌, false, [], IsErr, IfOk, OnOk};
 ghost use Rattle.nqs_outside.specs.Causes.{HasCause};
@@ -15,33 +15,49 @@ use std::test::Fail;
 
 /// What comes before the records.
 struct Form {
-    has_snapshot: bool,
+    /// 0 where there is no snapshot.
+    version: u8,
     header: &'static [u8],
     snapshot: &'static [u8],
 }
 
 const LONG: [u8; 300] = [7; 300];
 
-/// The first form, and the second with snapshots of 0, 1 and 300 bytes.
-static FORMS: [Form; 4] = [
+/// Without a snapshot, and by the header of each version with snapshots of 0, 1 and 300 bytes.
+static FORMS: [Form; 7] = [
     Form {
-        has_snapshot: false,
+        version: 0,
         header: b"NQS-JOURNAL-v1\n\n",
         snapshot: b"",
     },
     Form {
-        has_snapshot: true,
+        version: 1,
         header: b"NQS-SNAPSHOT-v1\n\0\0\0\0\0\0\0\0",
         snapshot: b"",
     },
     Form {
-        has_snapshot: true,
+        version: 1,
         header: b"NQS-SNAPSHOT-v1\n\0\0\0\0\0\0\0\x01",
         snapshot: b"x",
     },
     Form {
-        has_snapshot: true,
+        version: 1,
         header: b"NQS-SNAPSHOT-v1\n\0\0\0\0\0\0\x01\x2c",
+        snapshot: &LONG,
+    },
+    Form {
+        version: 2,
+        header: b"NQS-SNAPSHOT-v2\n\0\0\0\0\0\0\0\0",
+        snapshot: b"",
+    },
+    Form {
+        version: 2,
+        header: b"NQS-SNAPSHOT-v2\n\0\0\0\0\0\0\0\x01",
+        snapshot: b"x",
+    },
+    Form {
+        version: 2,
+        header: b"NQS-SNAPSHOT-v2\n\0\0\0\0\0\0\x01\x2c",
         snapshot: &LONG,
     },
 ];
@@ -68,13 +84,13 @@ fn reads_as(alloc: Global, bytes: &[u8], form: &Form, payloads: &[&[u8]]) -> Res
     let mut disk = disk_of(alloc, bytes)?;
     let mut snapshot = vec![in alloc; 9u8; 1]?;
     let mut found = Vec::new(alloc);
-    let has_snapshot = read_either(alloc, &mut disk, &mut snapshot, &mut found)?;
-    let told = has_snapshot == form.has_snapshot && snapshot[0] == 9;
+    let version = read_either(alloc, &mut disk, &mut snapshot, &mut found)?;
+    let told = version == form.version && snapshot[0] == 9;
     Ok(told && &snapshot[1..] == form.snapshot && has(&found, payloads))
 }
 
 #[test]
-fn reads_either_form(rt: HostRuntime) -> Result<(), Fail> {
+fn reads_each_form(rt: HostRuntime) -> Result<(), Fail> {
     let alloc = rt.alloc();
     for form in &FORMS {
         for count in 0..3 {
@@ -146,7 +162,7 @@ fn refuses_what_is_cut_short(rt: HostRuntime) -> Result<(), Fail> {
 }
 
 /// Bytes that stand for nothing, and the place at which they are refused.
-static REFUSED: [(&[u8], u64); 12] = [
+static REFUSED: [(&[u8], u64); 20] = [
     (b"nQS-JOURNAL-v1\n\n\0", 0),
     (b"nQS-SNAPSHOT-v1\n\0\0\0\0\0\0\0\0\0", 0),
     // The fifth byte tells the headers apart.
@@ -162,6 +178,17 @@ static REFUSED: [(&[u8], u64); 12] = [
     // 2^63 and 2^64 - 1 bytes.
     (b"NQS-SNAPSHOT-v1\n\x80\0\0\0\0\0\0\0x\0", 16),
     (b"NQS-SNAPSHOT-v1\n\xff\xff\xff\xff\xff\xff\xff\xffx\0", 16),
+    // The fifteenth byte tells the versions of snapshots apart.
+    (b"NQS-SNAPSHOT-v0\n\0\0\0\0\0\0\0\0\0", 14),
+    (b"NQS-SNAPSHOT-v3\n\0\0\0\0\0\0\0\0\0", 14),
+    (b"NQS-JOURNAL-v2\n\n\0", 13),
+    (b"NQS-SNAPSHOT-v2.\0\0\0\0\0\0\0\0\0", 15),
+    // A second line's end, as the journal without a snapshot has it.
+    (b"NQS-SNAPSHOT-v2\n\n\0\0\0\0\0\0\0\0", 16),
+    // The same lengths behind the second version's header.
+    (b"NQS-SNAPSHOT-v2\n\0\0\0\0\0\0\0\x02x\0", 26),
+    (b"NQS-SNAPSHOT-v2\n\0\0\0\0\0\0\0\x03x\0", 16),
+    (b"NQS-SNAPSHOT-v2\n\xff\xff\xff\xff\xff\xff\xff\xffx\0", 16),
 ];
 
 #[test]
@@ -192,8 +219,7 @@ fn goes_on(alloc: Global, disk: MemDisk) -> Result<[bool; 2], Fail>
 {
     let mut snapshot = Vec::new(alloc);
     let mut found = Vec::new(alloc);
-    let Ok((mut journal, true)) = Journal::load_either(alloc, disk, &mut snapshot, &mut found)
-    else {
+    let Ok((mut journal, 2)) = Journal::load_either(alloc, disk, &mut snapshot, &mut found) else {
         return Err("load")?;
     };
     let loaded = journal.count() == 1
@@ -205,7 +231,7 @@ fn goes_on(alloc: Global, disk: MemDisk) -> Result<[bool; 2], Fail>
     let told = journal.reread_either(alloc, &mut snapshot, &mut found)?;
     Ok([
         loaded,
-        told && journal.count() == 2 && snapshot.as_slice() == STATE && has(&found, &PAYLOADS),
+        told == 2 && journal.count() == 2 && snapshot.as_slice() == STATE && has(&found, &PAYLOADS),
     ])
 }
 
@@ -289,7 +315,7 @@ impl Disk for Failing {
     }
 }
 
-/// The snapshot `x` and the first payload.
+/// The snapshot `x`, of the first version, and the first payload.
 const WHOLE: &[u8] = b"NQS-SNAPSHOT-v1\n\0\0\0\0\0\0\0\x01x\x01\0\0\0\x05first\0";
 
 // Whether a load, and a reading again after it, find the snapshot and the payload. Where they
@@ -303,15 +329,15 @@ fn loads(alloc: Global, left: u64) -> Result<[bool; 2], Fail> {
         faults: 0,
     };
     let mut journal = match Journal::load_either(alloc, disk, &mut snapshot, &mut found) {
-        Ok((journal, true))
-            if snapshot.as_slice() == b"x".as_slice() && has(&found, &PAYLOADS[..1]) => journal,
+        Ok((journal, 1)) if snapshot.as_slice() == b"x".as_slice() && has(&found, &PAYLOADS[..1]) =>
+            journal,
         Err((JournalFault::Disk, _)) if snapshot.is_empty() && found.is_empty() => {
             return Ok([false, false]);
         }
         _ => return Err("load")?,
     };
     match journal.reread_either(alloc, &mut snapshot, &mut found) {
-        Ok(true) if snapshot.len() == 2 && found.len() == 2 => Ok([true, true]),
+        Ok(1) if snapshot.len() == 2 && found.len() == 2 => Ok([true, true]),
         Err(JournalFault::Disk) if snapshot.len() == 1 && found.len() == 1 => Ok([true, false]),
         _ => Err("reread")?,
     }

@@ -1,3 +1,4 @@
 pub mod Refusals
 pub mod Hops
 pub mod Ticks
+pub mod Staying

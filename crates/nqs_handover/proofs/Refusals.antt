@@ -19,36 +19,36 @@ use Rattle.nqs_handover.specs.Offers.{by_number, host_causes, into_causes}
 third : {A : Type 0} (a b : Bool) (x y z : A) → a ≡ false → b ≡ false → (if a then x else (if b then y else z)) ≡ z
 third a b x y z p q = (λ j. if p j then x else (if q j then y else z))
 
-module _ {E : Type 0} (s : State E) (peer : HostId) (queue : List ℕ) (c : Carried) where
+module _ {E : Type 0} (s : State E) (peer : HostId) (low : ℕ) (queue : List ℕ) (c : Carried) where
   abbrev into_part : Bool → Option QueueDef → List Cause
-  into_part there found = cause (not there) (NoQueue queue) ∷ causes_of (offer_entry_causes c) found ++ host_causes peer s
+  into_part there found = cause (not there) (NoQueue queue) ∷ causes_of (offer_entry_causes c) found ++ host_causes peer low s
 
-  pub into_found : (d : QueueDef) → Some d ≡ find_queue queue s → first_refusal (job_causes d c.job FromPipe ++ host_causes peer s)
-      ≡ first_refusal (into_causes peer queue c s)
+  pub into_found : (d : QueueDef) → Some d ≡ find_queue queue s → first_refusal (job_causes d c.job FromPipe ++ host_causes peer low s)
+      ≡ first_refusal (into_causes peer low queue c s)
   into_found d h = (λ i. first_refusal (into_part (sym (queue_there queue s d (sym h)) i) (h i)))
 
-  pub into_absent : None ≡ find_queue queue s → Err (NoQueue queue) ≡ first_refusal (into_causes peer queue c s)
+  pub into_absent : None ≡ find_queue queue s → Err (NoQueue queue) ≡ first_refusal (into_causes peer low queue c s)
   into_absent h = (λ i. first_refusal (into_part (sym (queue_missing queue s (sym h)) i) (h i)))
 
   module _ (n : ℕ) (script : List ℕ) where
-    taken : (r : Result (Unit {0}) Refusal) → Ok tt ≡ by_number r → offer_by r peer n queue c script s
-        ≡ makes (Promised peer n queue c script) (send_ready s peer n ∷ [])
+    taken : (r : Result (Unit {0}) Refusal) → Ok tt ≡ by_number r → offer_by r peer n low queue c script s
+        ≡ makes (Promised peer n low queue c script) (send_ready s peer n ∷ [])
     taken (Ok _) h = refl
     taken (Err x) h = absurd (let no : ⊥ = cc in no)
 
-    refused : (r : Result (Unit {0}) Refusal) (k : ℕ) → Err k ≡ by_number r → offer_by r peer n queue c script s ≡ says (send_refused s peer n k ∷ [])
+    refused : (r : Result (Unit {0}) Refusal) (k : ℕ) → Err k ≡ by_number r → offer_by r peer n low queue c script s ≡ says (send_refused s peer n k ∷ [])
     refused (Ok _) k h = absurd (let no : ⊥ = cc in no)
     refused (Err x) k h = (let e : Rattle.nqs_rules.specs.Causes.refusal_number x ≡ k = cc in ap (λ m. says (send_refused s peer n m ∷ [])) e)
 
     abbrev OfferIs : Stepped E → Type 0
-    OfferIs x = on_offer peer n queue c script s ≡ x
+    OfferIs x = on_offer peer n low queue c script s ≡ x
 
     -- an offer that nothing speaks against is promised
-    pub offer_taken : closes n (find_peer peer s) ≡ false → has_promise peer n s ≡ false → Ok tt ≡ by_number (first_refusal (offer_causes peer queue c s))
-        → OfferIs (makes (Promised peer n queue c script) (send_ready s peer n ∷ []))
-    offer_taken unclosed new h = third _ _ _ _ _ unclosed new ∙ taken (first_refusal (offer_causes peer queue c s)) h
+    pub offer_taken : closes n (find_peer peer s) ≡ false → has_promise peer n s ≡ false → Ok tt ≡ by_number (first_refusal (offer_causes peer low queue c s))
+        → OfferIs (makes (Promised peer n low queue c script) (send_ready s peer n ∷ []))
+    offer_taken unclosed new h = third _ _ _ _ _ unclosed new ∙ taken (first_refusal (offer_causes peer low queue c s)) h
 
     pub offer_refused : (k : ℕ) → closes n (find_peer peer s) ≡ false → has_promise peer n s ≡ false
-        → Err k ≡ by_number (first_refusal (offer_causes peer queue c s))
+        → Err k ≡ by_number (first_refusal (offer_causes peer low queue c s))
         → OfferIs (says (send_refused s peer n k ∷ []))
-    offer_refused k unclosed new h = third _ _ _ _ _ unclosed new ∙ refused (first_refusal (offer_causes peer queue c s)) k h
+    offer_refused k unclosed new h = third _ _ _ _ _ unclosed new ∙ refused (first_refusal (offer_causes peer low queue c s)) k h

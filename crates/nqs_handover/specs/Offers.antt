@@ -18,9 +18,10 @@ by_number (Err refusal) = Err (refusal_number refusal)
 
 module _ {E : Type 0} where
   -- why the host has no room or no number for an offered request
-  abbrev pub host_causes : HostId → State E → List Cause
-  host_causes peer s = cause (offer_full peer s) HostFull ∷ cause (arrivals_used s) NumbersUsed ∷ []
+  abbrev pub host_causes : HostId → ℕ → State E → List Cause
+  host_causes peer low s = cause (offer_full peer low s) HostFull ∷ cause (arrivals_used s) NumbersUsed ∷ []
 
   -- why an offer into a queue is refused, where its request isn't known
-  abbrev pub into_causes : HostId → List ℕ → Carried → State E → List Cause
-  into_causes peer queue c s = cause (not (has_queue queue s)) (NoQueue queue) ∷ causes_of (offer_entry_causes c) (find_queue queue s) ++ host_causes peer s
+  abbrev pub into_causes : HostId → ℕ → List ℕ → Carried → State E → List Cause
+  into_causes peer low queue c s =
+      cause (not (has_queue queue s)) (NoQueue queue) ∷ causes_of (offer_entry_causes c) (find_queue queue s) ++ host_causes peer low s

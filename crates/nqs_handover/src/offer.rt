@@ -11,7 +11,7 @@ ghost use Rattle.nqs_handover.specs.Offers.{by_number, host_causes, into_causes}
 
 use nqs_base::{Bytes, ListOf, Memory, Name};
 use nqs_plans::{add, change_storing, copy_carried, message, no_extent, refusal_number, says};
-use nqs_routing::{find_peer, has_promise};
+use nqs_routing::{find_peer, has_promise, is_closed};
 use nqs_rows::{check_arrivals, check_job, offer_full};
 use nqs_state::HostState;
 use nqs_types::{Body, Carried, Change, Entry, HostId, Job, Plan, QueueDef, Refusal, RequestId};
@@ -21,12 +21,12 @@ use std::mem::replace;
 // The number of a refusal for a request that exists.
 const EXISTS: u8 = 33;
 
-// Whether the number of a handover from the peer is closed.
-pub(crate) fn is_closed(state: &HostState, peer: HostId, number: u64) -> bool
+// Whether the host is of the site, and the number of a handover from it is closed.
+pub(crate) fn closes(state: &HostState, peer: HostId, number: u64) -> bool
     ensures { result ≡ closes number (find_peer peer (content state.now)) }
 {
     match find_peer(state, peer) {
-        Some(known) => number <= known.closed,
+        Some(known) => is_closed(known, number),
         None => false,
     }
 }
@@ -38,32 +38,39 @@ fn is_not_given_here(state: &HostState, id: RequestId) -> bool
     state.me == id.host && state.seq < id.seq
 }
 
-fn check_host(state: &HostState, peer: HostId) -> Result<(), Refusal>
-    ensures { result ≡ first_refusal (host_causes peer (content state.now)) }
+fn check_host(state: &HostState, peer: HostId, low: u64) -> Result<(), Refusal>
+    ensures { result ≡ first_refusal (host_causes peer low (content state.now)) }
 {
-    if offer_full(state, peer) {
+    if offer_full(state, peer, low) {
         return Err(Refusal::HostFull);
     }
     check_arrivals(state)
 }
 
-fn check_found(state: &HostState, peer: HostId, queue: &QueueDef, job: &Job) -> Result<(), Refusal>
-    ensures { result ≡ first_refusal (job_causes queue.now job.now Entry.FromPipe ++ host_causes peer (content state.now)) }
+fn check_found(
+    state: &HostState,
+    peer: HostId,
+    low: u64,
+    queue: &QueueDef,
+    job: &Job,
+) -> Result<(), Refusal>
+    ensures { result ≡ first_refusal (job_causes queue.now job.now Entry.FromPipe ++ host_causes peer low (content state.now)) }
 {
     check_job(queue, job, Entry::FromPipe)?;
-    check_host(state, peer)
+    check_host(state, peer, low)
 }
 
 fn check_into(
     state: &HostState,
     peer: HostId,
+    low: u64,
     queue: &Name,
     carried: &Carried,
 ) -> Result<(), Refusal>
-    ensures { result ≡ first_refusal (into_causes peer queue.now carried.now (content state.now)) }
+    ensures { result ≡ first_refusal (into_causes peer low queue.now carried.now (content state.now)) }
 {
     match state.queues.get(queue) {
-        Some(def) => check_found(state, peer, def, &carried.job),
+        Some(def) => check_found(state, peer, low, def, &carried.job),
         None => Err(Refusal::NoQueue(*queue)),
     }
 }
@@ -75,13 +82,19 @@ fn is_known(state: &HostState, id: RequestId) -> bool
 }
 
 // Whether the offer is taken, or the number of its refusal.
-fn check_offer(state: &HostState, peer: HostId, queue: &Name, carried: &Carried) -> Result<(), u8>
-    ensures { result ≡ by_number (first_refusal (offer_causes peer queue.now carried.now (content state.now))) }
+fn check_offer(
+    state: &HostState,
+    peer: HostId,
+    low: u64,
+    queue: &Name,
+    carried: &Carried,
+) -> Result<(), u8>
+    ensures { result ≡ by_number (first_refusal (offer_causes peer low queue.now carried.now (content state.now))) }
 {
     if is_known(state, carried.id) {
         return Err(EXISTS);
     }
-    match check_into(state, peer, queue, carried) {
+    match check_into(state, peer, low, queue, carried) {
         Ok(()) => Ok(()),
         Err(refusal) => Err(refusal_number(&refusal)),
     }
@@ -100,16 +113,18 @@ fn promise(
     state: &HostState,
     peer: HostId,
     number: u64,
+    low: u64,
     queue: &Name,
     carried: &Carried,
     script: &mut Bytes,
 ) -> Result<Plan, Memory>
-    ensures { IfOk result (λ plan. plan ≡ plan_of (makes (Promised peer number queue.now carried.now script.old)
+    ensures { IfOk result (λ plan. plan ≡ plan_of (makes (Promised peer number low queue.now carried.now script.old)
         (send_ready (content state.now) peer number ∷ []))) }
 {
     let promised = Change::Promised {
         peer,
         number,
+        low,
         queue: *queue,
         carried: copy_carried(carried)?,
         script: no_extent(),
@@ -119,27 +134,28 @@ fn promise(
 }
 
 /// OFFER: the request is promised and READY goes out, or REFUSED with the number of the first
-/// refusal. DONE goes out where the number is closed, and READY where it is promised already. The
+/// refusal. By a promise the numbers below `low`, from 1 to the number, are closed. DONE goes out where the number is closed, and READY where it is promised already. The
 /// script of a request that is promised is taken out of `script`; what is left there isn't told.
 pub fn on_offer(
     alloc: Global,
     state: &HostState,
     peer: HostId,
     number: u64,
+    low: u64,
     queue: &Name,
     carried: &Carried,
     script: &mut Bytes,
 ) -> Result<Plan, Memory>
-    ensures { IfOk result (λ plan. plan ≡ plan_of (on_offer peer number queue.now carried.now script.old (content state.now))) }
+    ensures { IfOk result (λ plan. plan ≡ plan_of (on_offer peer number low queue.now carried.now script.old (content state.now))) }
 {
-    if is_closed(state, peer, number) {
+    if closes(state, peer, number) {
         return says(alloc, message(state, peer, Body::Done { number }));
     }
     if has_promise(state, peer, number) {
         return says(alloc, message(state, peer, Body::Ready { number }));
     }
-    match check_offer(state, peer, queue, carried) {
-        Ok(()) => promise(alloc, state, peer, number, queue, carried, script),
+    match check_offer(state, peer, low, queue, carried) {
+        Ok(()) => promise(alloc, state, peer, number, low, queue, carried, script),
         Err(cause) => says(alloc, message(state, peer, Body::Refused { number, cause })),
     }
 }

@@ -2,6 +2,7 @@
 ghost use Rattle.std.specs.Prelude.{◌≡◌, ◌∷◌, [], ◌<◌, IfOk, IsTrue};
 ghost use Rattle.std.specs.Option.{option_copied};
 ghost use Rattle.nqs_state.specs.State.{content};
+ghost use Rattle.nqs_rules.specs.Routing.{low};
 ghost use Rattle.nqs_rules.specs.Handover.{carried_of, offer, open_hand};
 ghost use Rattle.nqs_rules.specs.Start.{dest_at};
 ghost use Rattle.nqs_rules.specs.Stepped.{plan_of};
@@ -9,11 +10,11 @@ ghost use Rattle.nqs_types.specs.declared.change.Change.TheVariants.{HandOpened}
 ghost use Rattle.nqs_plans.specs.More.{change_alone, with_more};
 ghost use Rattle.nqs_handover.specs.Opened.{may_count_hops, open_hand_at};
 
-use nqs_base::{ListOf, Memory, Name};
+use nqs_base::{ListOf, Memory};
 use nqs_plans::{add_kept, change_alone, copy_job, message, quiet};
-use nqs_routing::find_peer;
+use nqs_routing::{find_peer, low};
 use nqs_state::HostState;
-use nqs_types::{Body, Carried, Change, Dest, HostId, Peer, Plan, Row};
+use nqs_types::{Body, Carried, Change, Dest, Plan, Row};
 use std::alloc::Global;
 
 fn carried_of(row: &Row) -> Result<Carried, Memory>
@@ -29,29 +30,31 @@ fn carried_of(row: &Row) -> Result<Carried, Memory>
     })
 }
 
-// The plan, and an offer of the row behind its outputs.
+// The plan, and an offer of the row to the destination behind its outputs.
 pub(crate) fn add_offer(
     alloc: Global,
     state: &HostState,
     plan: Plan,
-    peer: HostId,
+    dest: &Dest,
     number: u64,
-    queue: Name,
+    low: u64,
     row: &Row,
 ) -> Result<Plan, Memory>
     requires { row.now.hops < 255 }
-    ensures { IfOk result (λ more. more ≡ with_more plan (offer state.now.me peer number queue row.now ∷ [])) }
+    ensures { IfOk result (λ more. more ≡ with_more plan (offer state.now.me dest.now.host number low dest.now.queue row.now ∷ [])) }
 {
     let offer = Body::Offer {
         number,
-        queue,
+        low,
+        queue: dest.queue,
         carried: carried_of(row)?,
         script: ListOf::new(alloc),
     };
-    add_kept(plan, message(state, peer, offer), row.script)
+    add_kept(plan, message(state, dest.host, offer), row.script)
 }
 
-// The row is offered under the peer's next number.
+// The row is offered under the peer's next number, which is greater than those of the handovers
+// to it: so the low that goes out is that with the new one.
 fn offer_under(
     alloc: Global,
     state: &HostState,
@@ -62,7 +65,7 @@ fn offer_under(
 ) -> Result<Plan, Memory>
     requires { row.now.hops < 255 }
     ensures { IfOk result (λ plan. plan ≡ with_more (change_alone (HandOpened dest.now.host number row.now.id dest.now.queue now) [])
-        (offer state.now.me dest.now.host number dest.now.queue row.now ∷ [])) }
+        (offer state.now.me dest.now.host number (low dest.now.host number state.now.hands.items) dest.now.queue row.now ∷ [])) }
 {
     let opened = Change::HandOpened {
         peer: dest.host,
@@ -72,7 +75,8 @@ fn offer_under(
         since: now,
     };
     let plan = change_alone(alloc, opened);
-    add_offer(alloc, state, plan, dest.host, number, dest.queue, row)
+    let low = low(state, dest.host, number);
+    add_offer(alloc, state, plan, dest, number, low, row)
 }
 
 /// Offers the row to a destination on another host, under the next number for that host. `now` is

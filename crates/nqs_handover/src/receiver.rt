@@ -4,7 +4,7 @@ ghost use Rattle.nqs_state.specs.State.{content};
 ghost use Rattle.nqs_rules.specs.Handover.{on_commit, on_abort};
 ghost use Rattle.nqs_rules.specs.Stepped.{plan_of};
 
-use crate::offer::is_closed;
+use crate::offer::closes;
 use nqs_base::Memory;
 use nqs_plans::{add, change_alone, message, quiet, says};
 use nqs_routing::has_promise;
@@ -26,7 +26,7 @@ pub fn on_commit(
     if has_promise(state, peer, number) {
         return add(change_alone(alloc, Change::Accepted { peer, number }), done);
     }
-    if is_closed(state, peer, number) {
+    if closes(state, peer, number) {
         return says(alloc, done);
     }
     Ok(quiet(alloc))

@@ -2,17 +2,19 @@
 ghost use Rattle.std.specs.Prelude.{◌≡◌, ◌∷◌, ◌++◌, [], false, IfOk, IsTrue};
 ghost use Rattle.nqs_rules.specs.Find.{find_row};
 ghost use Rattle.nqs_state.specs.State.{content};
-ghost use Rattle.nqs_rules.specs.Handover.{later, is_silent, silent_hands, repeat_offer, repeat_phase, repeat_hand, send_inquire, silence, on_tick};
+ghost use Rattle.nqs_rules.specs.Routing.{low};
+ghost use Rattle.nqs_rules.specs.Handover.{later, is_silent, silent_hands, staying_hands, repeat_offer, repeat_phase, repeat_hand, send_inquire, silence, on_tick};
 ghost use Rattle.nqs_rules.specs.Stepped.{plan_of};
 ghost use Rattle.nqs_plans.specs.More.{with_more};
 ghost use Rattle.nqs_handover.specs.Opened.{may_count_hops};
-ghost use Rattle.nqs_handover.specs.Silent.{silent_key};
+ghost use Rattle.nqs_handover.specs.Silent.{silent_key, stays_to};
 
 use crate::open::add_offer;
 use nqs_base::{Items, Keyed, ListOf, Memory};
 use nqs_plans::{add, change_alone, fold_each, message, quiet};
+use nqs_routing::{is_before, is_hand_to};
 use nqs_state::HostState;
-use nqs_types::{Body, Change, Hand, PeerNumber, Phase, Plan, Promise};
+use nqs_types::{Body, Change, Dest, Hand, HostId, PeerNumber, Phase, Plan, Promise};
 use std::alloc::Global;
 
 // The moment so many seconds later, or the last one.
@@ -73,23 +75,63 @@ fn silence(alloc: Global, state: &HostState, now: u64) -> Result<Plan, Memory>
     Ok(change_alone(alloc, Change::HandsSilent { until, hands }))
 }
 
+// Whether the handover goes to the host, and stays at the tick.
+fn stays_to(state: &HostState, now: u64, hand: &Hand, peer: HostId) -> bool
+    ensures { result ≡ stays_to now (content state.now) peer hand.now }
+{
+    is_hand_to(hand, peer) && !is_silent(state, now, hand)
+}
+
+// The low of the host behind the tick's change: by a number that stays, of the handovers that do.
+fn low_behind(state: &HostState, now: u64, peer: HostId, number: u64) -> u64
+    ensures { result ≡ low peer number (staying_hands now (content state.now)) }
+{
+    let least = state.hands.best(
+        |hand: &Hand| stays_to(state, now, hand, peer),
+        |hand: &Hand, other: &Hand| is_before(hand, other),
+    );
+    match least {
+        Some((_, hand)) => hand.number.min(number),
+        None => number,
+    }
+}
+
 // The plan, and the offer of the handover's row again.
-fn repeat_offer(alloc: Global, state: &HostState, plan: Plan, hand: &Hand) -> Result<Plan, Memory>
+fn repeat_offer(
+    alloc: Global,
+    state: &HostState,
+    now: u64,
+    plan: Plan,
+    hand: &Hand,
+) -> Result<Plan, Memory>
     requires { IsTrue (may_count_hops (content state.now)) }
-    ensures { IfOk result (λ more. more ≡ with_more plan (repeat_offer (content state.now) hand.now (find_row hand.now.id (content state.now)))) }
+    ensures { IfOk result (λ more. more ≡ with_more plan (repeat_offer now (content state.now) hand.now (find_row hand.now.id (content state.now)))) }
 {
     match state.rows.get(&hand.id) {
-        Some(row) => add_offer(alloc, state, plan, hand.peer, hand.number, hand.queue, row),
+        Some(row) => {
+            let dest = Dest {
+                queue: hand.queue,
+                host: hand.peer,
+            };
+            let low = low_behind(state, now, hand.peer, hand.number);
+            add_offer(alloc, state, plan, &dest, hand.number, low, row)
+        }
         None => Ok(plan),
     }
 }
 
-fn repeat_phase(alloc: Global, state: &HostState, plan: Plan, hand: &Hand) -> Result<Plan, Memory>
+fn repeat_phase(
+    alloc: Global,
+    state: &HostState,
+    now: u64,
+    plan: Plan,
+    hand: &Hand,
+) -> Result<Plan, Memory>
     requires { IsTrue (may_count_hops (content state.now)) }
-    ensures { IfOk result (λ more. more ≡ with_more plan (repeat_phase hand.now.phase (content state.now) hand.now)) }
+    ensures { IfOk result (λ more. more ≡ with_more plan (repeat_phase hand.now.phase now (content state.now) hand.now)) }
 {
     match hand.phase {
-        Phase::Offered => repeat_offer(alloc, state, plan, hand),
+        Phase::Offered => repeat_offer(alloc, state, now, plan, hand),
         Phase::Committed => {
             let number = hand.number;
             add(plan, message(state, hand.peer, Body::Commit { number }))
@@ -111,7 +153,7 @@ fn repeat_hand(
     if is_silent(state, now, hand) {
         return Ok(plan);
     }
-    repeat_phase(alloc, state, plan, hand)
+    repeat_phase(alloc, state, now, plan, hand)
 }
 
 // The plan, and the question whether the promised request comes.

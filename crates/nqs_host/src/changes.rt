@@ -83,13 +83,27 @@ pub fn apply(state: &mut HostState, change: Change)
         } => hands::refused(state, &PeerNumber { peer, number }, cause),
         Change::HandsSilent { until, hands } => hands::all_silent(state, hands.as_slice(), until),
         Change::HandDone { peer, number } => hands::done(state, &PeerNumber { peer, number }),
-        Change::Promised {
+        Change::OldPromised {
             peer,
             number,
             queue,
             carried,
             script,
-        } => promises::promised(state, PeerNumber { peer, number }, queue, carried, script),
+        } => {
+            let key = PeerNumber { peer, number };
+            promises::promised(state, key, number, queue, carried, script)
+        }
+        Change::Promised {
+            peer,
+            number,
+            low,
+            queue,
+            carried,
+            script,
+        } => {
+            let key = PeerNumber { peer, number };
+            promises::promised(state, key, low, queue, carried, script)
+        }
         Change::Accepted { peer, number } => {
             promises::accepted(state, &PeerNumber { peer, number })
         }

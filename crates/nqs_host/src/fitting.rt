@@ -1,16 +1,14 @@
 //! Whether a change may be made of a host's state. `nqs_rules/specs/Fits.antt` has the rule.
 
 ghost use Rattle.std.specs.Prelude.{◌≡◌, ◌≤◌, ◌&&◌, not, nat_lt, length, is_ok};
-ghost use Rattle.std.specs.List.{list_any};
 ghost use Rattle.nqs_state.specs.State.{content};
 ghost use Rattle.nqs_rules.specs.Find.{has_queue};
-ghost use Rattle.nqs_rules.specs.Fits.{is_offered_hand, is_committed_hand, is_next, is_open_number, is_new_stage, is_idle, may_hop, row_passes, hand_passes};
-ghost use Rattle.nqs_rules.specs.Fits.{are_offered, device_fits, edit_fits, is_unknown, offer_full, fits};
+ghost use Rattle.nqs_rules.specs.Fits.{is_offered_hand, is_committed_hand, is_next, is_new_stage, is_idle, may_hop, row_passes, hand_passes};
+ghost use Rattle.nqs_rules.specs.Fits.{are_offered, device_fits, edit_fits, hand_fits, is_unknown, promise_fits, fits};
 ghost use Rattle.nqs_rules.specs.Tests.{passes, is_ready, last_seq};
-ghost use Rattle.nqs_rules.specs.Find.{find_peer, held_count, has_promise};
-ghost use Rattle.nqs_rules.specs.Routing.{is_hand_to};
+ghost use Rattle.nqs_rules.specs.Find.{find_peer, held_count};
+ghost use Rattle.nqs_rules.specs.Routing.{is_within_window};
 ghost use Rattle.nqs_rules.specs.Rows.{arrivals_used, is_host_full};
-ghost use Rattle.nqs_rules.specs.Fits.{is_site_host};
 
 use nqs_access::check_access;
 use nqs_base::Name;
@@ -18,10 +16,10 @@ use nqs_changes::rows::row_runs;
 use nqs_conf::check_conf;
 use nqs_devices::{check_devices, is_busy};
 use nqs_limits::check_limits;
-use nqs_routing::{find_peer, has_hand_to, has_promise, is_open_number};
+use nqs_routing::{find_peer, has_promise, has_room_for_hand, is_open_number, is_within_window};
 use nqs_rows::{arrivals_used, check_rows, is_host_full, offer_full};
 use nqs_state::HostState;
-use nqs_types::{Change, Edit, HostId, PeerNumber, Phase, RequestId, Row, RowState};
+use nqs_types::{Carried, Change, Edit, HostId, PeerNumber, Phase, RequestId, Row, RowState};
 
 /// Hops that a request may have before one more.
 const MOST_HOPS: u8 = 32;
@@ -114,11 +112,22 @@ fn device_fits(state: &HostState, device: &Option<Name>) -> bool
     }
 }
 
-fn opening_fits(state: &HostState, peer: HostId, number: u64, id: &RequestId) -> bool
-    ensures { result ≡ (row_passes may_hop id.now (content state.now) && passes (is_next number) (find_peer peer (content state.now))
-        && not (list_any (is_hand_to peer) state.now.hands.items)) }
+fn next_is_within_window(state: &HostState, peer: HostId) -> bool
+    ensures { result ≡ passes (is_within_window peer (content state.now)) (find_peer peer (content state.now)) }
 {
-    row_may_hop(state, id) && is_next(state, peer, number) && !has_hand_to(state, peer)
+    match find_peer(state, peer) {
+        Some(known) => is_within_window(state, peer, known),
+        None => false,
+    }
+}
+
+fn opening_fits(state: &HostState, peer: HostId, number: u64, id: &RequestId) -> bool
+    ensures { result ≡ hand_fits peer number id.now (content state.now) }
+{
+    row_may_hop(state, id)
+        && is_next(state, peer, number)
+        && has_room_for_hand(state, peer)
+        && next_is_within_window(state, peer)
 }
 
 // Whether the request isn't known here: it is no row, and of this host only if its number was
@@ -129,18 +138,23 @@ fn is_unknown(state: &HostState, id: &RequestId) -> bool
     !state.rows.has(id) && (!(state.me == id.host) || id.seq <= state.seq)
 }
 
-fn promise_fits(state: &HostState, peer: HostId, number: u64, queue: &Name, id: &RequestId) -> bool
-    ensures { result ≡ (has_queue queue.now (content state.now) && passes (is_open_number number) (find_peer peer (content state.now))
-        && not (has_promise peer number (content state.now))
-        && is_site_host id.now.host (content state.now) && is_unknown id.now (content state.now) && not (offer_full peer (content state.now))
-        && not (arrivals_used (content state.now))) }
+fn promise_fits(
+    state: &HostState,
+    peer: HostId,
+    number: u64,
+    low: u64,
+    queue: &Name,
+    carried: &Carried,
+) -> bool
+    ensures { result ≡ promise_fits peer number low queue.now carried.now (content state.now) }
 {
+    let id = &carried.id;
     state.queues.has(queue)
         && is_open_number(state, peer, number)
         && !has_promise(state, peer, number)
         && (id.host.0 as usize) < state.site.len()
         && is_unknown(state, id)
-        && !offer_full(state, peer)
+        && !offer_full(state, peer, low)
         && !arrivals_used(state)
 }
 
@@ -190,13 +204,21 @@ pub fn fits(state: &HostState, change: &Change) -> bool
         Change::HandRefused { peer, number, .. } => is_offered(state, *peer, *number),
         Change::HandsSilent { hands, .. } => are_offered(state, hands.as_slice()),
         Change::HandDone { peer, number } => is_committed(state, *peer, *number),
-        Change::Promised {
+        Change::OldPromised {
             peer,
             number,
             queue,
             carried,
             ..
-        } => promise_fits(state, *peer, *number, queue, &carried.id),
+        } => promise_fits(state, *peer, *number, *number, queue, carried),
+        Change::Promised {
+            peer,
+            number,
+            low,
+            queue,
+            carried,
+            ..
+        } => promise_fits(state, *peer, *number, *low, queue, carried),
         Change::Accepted { peer, number } => has_promise(state, *peer, *number),
         Change::Dropped { peer, number } => has_promise(state, *peer, *number),
         Change::MovedLocal { id, queue } => move_fits(state, id, queue),

@@ -4,7 +4,7 @@ ghost use Rattle.std.specs.Prelude.{◌≡◌, ◌∷◌, [], IfOk, map};
 ghost use Rattle.nqs_state.specs.State.{content};
 ghost use Rattle.nqs_rules.specs.Format.{no_limits, new_peer, first_queue, formatted};
 
-use nqs_base::{ListOf, Memory, Name, NameList, Spare};
+use nqs_base::{Items, ListOf, Memory, Name, NameList, Spare};
 use nqs_base_tables::Table;
 use nqs_state::{HostState, PeerList, Rows};
 use nqs_types::{Access, HostId, Kind, Limits, Peer, QueueDef, batch, root};
@@ -16,14 +16,6 @@ const GLOBAL_LIMIT: u16 = 64;
 const PATIENCE: u64 = 60;
 /// Seconds.
 const RETRY_WAIT: u64 = 300;
-
-const NEW_PEER: Peer = Peer {
-    next: 1,
-    closed: 0,
-    wait: 0,
-    stage_next: 1,
-    stage_got: 0,
-};
 
 // The queue that a formatted host has.
 fn first_queue(alloc: Global) -> QueueDef
@@ -57,12 +49,29 @@ fn first_queues(alloc: Global) -> Result<Table<Name, QueueDef>, Memory>
     Ok(queues)
 }
 
+// What is known of a host from which nothing came and to which nothing went.
+fn new_peer(alloc: Global) -> Peer
+    ensures { result ≡ new_peer }
+{
+    Peer {
+        next: 1,
+        floor: 0,
+        closed: ListOf::new(alloc),
+        wait: 0,
+        stage_next: 1,
+        stage_got: 0,
+    }
+}
+
 // What is known of each host at first.
 fn new_peers(alloc: Global, site: &NameList) -> Result<PeerList, Memory>
     ensures { IfOk result (λ peers. peers ≡ map (λ _. new_peer) site.now) }
 {
-    let peers = vec![in alloc; NEW_PEER; site.len()]?;
-    Ok(ListOf::from_vec(peers))
+    let mut peers = Items::new(alloc);
+    for _place in 0..site.len() {
+        peers.push(new_peer(alloc))?;
+    }
+    Ok(peers)
 }
 
 /// A host of this site, as it is formatted. Its rows get their index as it boots.
@@ -96,5 +105,6 @@ pub fn formatted(alloc: Global, me: HostId, site: NameList) -> Result<HostState,
         spare_names: Spare::new(alloc),
         spare_dests: Spare::new(alloc),
         spare_refused: Spare::new(alloc),
+        spare_closed: Spare::new(alloc),
     })
 }

@@ -25,7 +25,8 @@ use Rattle.nqs_types.specs.declared.rule.Choice.{Choice}
 use Rattle.nqs_types.specs.declared.rule.Choice.TheVariants.{Launch, Print, TooFar, Local, Hand as HandTo}
 use Rattle.nqs_types.specs.declared.change.Change.{Change}
 use Rattle.nqs_types.specs.declared.change.Change.TheVariants.{Site, Submitted, Deleted, Doomed, Started, Ended, Unlaunched, Boot, Edited, HandOpened}
-use Rattle.nqs_types.specs.declared.change.Change.TheVariants.{HandCommitted, HandRefused, HandsSilent, HandDone, Promised, Accepted, Dropped, MovedLocal}
+use Rattle.nqs_types.specs.declared.change.Change.TheVariants.{HandCommitted, HandRefused, HandsSilent, HandDone, OldPromised, Promised, Accepted, Dropped}
+use Rattle.nqs_types.specs.declared.change.Change.TheVariants.{MovedLocal}
 use Rattle.nqs_types.specs.declared.change.Change.TheVariants.{RefusedLocal, HeldFar, StageGot, StageGone, FileGone}
 use Rattle.nqs_types.specs.declared.message.Body.{Body}
 use Rattle.nqs_types.specs.declared.message.Body.TheVariants as body
@@ -41,7 +42,8 @@ use Rattle.nqs_rules.specs.Access.{rank, may_command}
 use Rattle.nqs_rules.specs.Order.{pick}
 use Rattle.nqs_rules.specs.Rows.{queue_meant, submit_causes, delete_causes}
 use Rattle.nqs_rules.specs.Fits.{edit_causes}
-use Rattle.nqs_rules.specs.Sane.{is_of_site, is_asked_job, is_short_script, is_short_output, is_sane_carried, is_sane_command, is_sane_body, is_sane_event}
+use Rattle.nqs_rules.specs.Sane.{is_of_site, is_asked_job, is_short_script, is_short_output, is_sane_carried, is_sane_command, is_sane_body, is_sane_low}
+use Rattle.nqs_rules.specs.Sane.{is_sane_event}
 use Rattle.nqs_rules.specs.InOrder.{IsInOrder}
 use Rattle.nqs_rules.specs.Stepped.{Stepped, map_change, part_bytes, puts_of}
 use Rattle.nqs_rules.specs.Handover.{closes, was_given, is_silent, silence, silent_hands, offer_causes, offer_by, on_offer, ready_phase, ready_with, on_ready}
@@ -132,12 +134,12 @@ module _ {E : Type 0} (s : State E) (h : IsInOrder s) where
 
   -- messages
 
-  offer_modest : (peer : HostId) (n : ℕ) (queue : List ℕ) (c : Carried) (script : List ℕ) → length script ≤ 32768
-      → Modest (on_offer peer n queue c script s).change
-  offer_modest peer n queue c script short = choice (closes n (find_peer peer s)) _ _ (tt, tt)
-      (choice (has_promise peer n s) _ _ (tt, tt) (by (first_refusal (offer_causes peer queue c s))))
+  offer_modest : (peer : HostId) (n low : ℕ) (queue : List ℕ) (c : Carried) (script : List ℕ) → length script ≤ 32768
+      → Modest (on_offer peer n low queue c script s).change
+  offer_modest peer n low queue c script short = choice (closes n (find_peer peer s)) _ _ (tt, tt)
+      (choice (has_promise peer n s) _ _ (tt, tt) (by (first_refusal (offer_causes peer low queue c s))))
     where
-      by : (o : Result (Unit {0}) Refusal) → Modest (offer_by o peer n queue c script s).change
+      by : (o : Result (Unit {0}) Refusal) → Modest (offer_by o peer n low queue c script s).change
       by (Err e) = (tt, tt)
       by (Ok u) = ((short, tt), refl)
 
@@ -179,9 +181,9 @@ module _ {E : Type 0} (s : State E) (h : IsInOrder s) where
       (choice (has_left s.file_next 0) _ _ ((short, tt), refl) ((omega arith, tt), refl))
 
   message_modest : (peer : HostId) (b : Body) → is_sane_body (length s.site) b ≡ true → Modest (on_message peer b s).change
-  message_modest peer (body.Offer n queue c script) sane =
-      let k = each (nat_le 1 n) (is_sane_carried c ∷ is_of_site (length s.site) c.id.host ∷ is_short_script script ∷ []) sane in
-      offer_modest peer n queue c script (leb-true (length script) 32768 k.1.1.1.0)
+  message_modest peer (body.Offer n low queue c script) sane =
+      let k = each (nat_le 1 n) (is_sane_low low n ∷ is_sane_carried c ∷ is_of_site (length s.site) c.id.host ∷ is_short_script script ∷ []) sane in
+      offer_modest peer n low queue c script (leb-true (length script) 32768 k.1.1.1.1.0)
   message_modest peer (body.Ready n) sane = ready_modest peer n
   message_modest peer (body.Refused n refusal) sane = refused_modest peer n refusal
   message_modest peer (body.Commit n) sane = choice (has_promise peer n s) _ _ (tt, refl) (choice (closes n (find_peer peer s)) _ _ (tt, tt) (tt, tt))
@@ -293,7 +295,8 @@ few-map f (HandCommitted peer number) = refl
 few-map f (HandRefused peer number cause) = refl
 few-map f (HandsSilent until hands) = refl
 few-map f (HandDone peer number) = refl
-few-map f (Promised peer number queue c script) = refl
+few-map f (OldPromised peer number queue c script) = refl
+few-map f (Promised peer number low queue c script) = refl
 few-map f (Accepted peer number) = refl
 few-map f (Dropped peer number) = refl
 few-map f (MovedLocal id queue) = refl

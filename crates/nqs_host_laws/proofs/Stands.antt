@@ -1,6 +1,6 @@
 -- What of a change that fits a host in order stands in a record since it is found there: hosts and
 -- requests. And paths.
-use Rattle.std.proofs.Common.{◌≡◌, ℕ, Bool, true, nat_le, IsTrue, List, [], ◌∷◌, map, find, Option}
+use Rattle.std.proofs.Common.{◌≡◌, ℕ, Bool, true, not, nat_le, IsTrue, List, [], ◌∷◌, map, find, Option}
 use Rattle.std.proofs.Common.{None, Some, is_ok, true≢false, refl, sym, subst, arith}
 use Rattle.std.proofs.lemmas.Bool.{and_parts, leb-true, lt-ltb}
 use Rattle.std.specs.List.{list_all, AllByRecursion}
@@ -15,17 +15,19 @@ use Rattle.nqs_types.specs.declared.ids.Named.{Named}
 use Rattle.nqs_types.specs.declared.ids.PeerNumber.{PeerNumber}
 use Rattle.nqs_types.specs.declared.ids.RequestId.{RequestId}
 use Rattle.nqs_types.specs.declared.change.OutPart.{OutPart}
+use Rattle.nqs_types.specs.declared.request.Carried.{Carried}
 use Rattle.nqs_types.specs.declared.request.Hand.{Hand}
 use Rattle.nqs_types.specs.declared.request.Peer.{Peer}
 use Rattle.nqs_types.specs.declared.request.Row.{Row}
 use Rattle.nqs_rules.specs.Tests.{passes}
 use Rattle.nqs_rules.specs.Causes.{Cause, first_refusal}
-use Rattle.nqs_rules.specs.Find.{peer_number, request_of, host_named, find_row, row_of, meant_row, has_promise, has_stage, find_peer}
-use Rattle.nqs_rules.specs.Rows.{named_causes}
-use Rattle.nqs_rules.specs.Fits.{is_site_host, row_passes, hand_passes, is_offered_hand, are_offered, is_open_number}
+use Rattle.nqs_rules.specs.Find.{peer_number, request_of, host_named, find_row, row_of, meant_row, has_queue, has_promise, has_stage, find_peer}
+use Rattle.nqs_rules.specs.Rows.{arrivals_used, named_causes}
+use Rattle.nqs_rules.specs.Fits.{is_site_host, row_passes, hand_passes, is_offered_hand, are_offered, is_open_number, is_unknown, offer_full, promise_fits}
 use Rattle.nqs_rules.specs.InOrder.{IsInOrder, is_row_right, is_hand_given, is_hand_right, is_promise_right, is_stage_given, is_stage_right}
 use Rattle.nqs_rules.specs.Sane.{is_sane_id, has_path}
 use Rattle.nqs_rules.specs.Stepped.{part_bytes}
+use Rattle.nqs_rules.proofs.Chains.{each}
 use Rattle.nqs_rules.proofs.KeyFacts.{found_any}
 use Rattle.nqs_rules.proofs.PathStands.{path_stands}
 use Rattle.nqs_rules.proofs.ListFacts.{found_passes, list_all-found}
@@ -48,6 +50,18 @@ pub parts_stand : (parts : List (OutPart Extent)) → list_all has_path parts �
 parts_stand [] paths extents = tt
 parts_stand (p ∷ ps) paths extents = let k = and_parts (is_path p.path) (list_all has_path ps) paths in
     ((path_stands p.path k.0, extents.0), parts_stand ps k.1 extents.1)
+
+module _ {E : Type 0} (s : State E) (peer : HostId) (number low : ℕ) (queue : List ℕ) (c : Carried) where
+  -- a promise that fits has a host of the site, and an open number of a peer
+  pub record PromiseHas : Type 0 where
+    pub opens : passes (is_open_number number) (find_peer peer s) ≡ true
+    pub host : is_site_host c.id.host s ≡ true
+
+  pub promise_has : promise_fits peer number low queue c s ≡ true → PromiseHas
+  promise_has fit =
+      let k = each (has_queue queue s) (passes (is_open_number number) (find_peer peer s) ∷ not (has_promise peer number s) ∷ is_site_host c.id.host s
+      ∷ is_unknown c.id s ∷ not (offer_full peer low s) ∷ not (arrivals_used s) ∷ []) fit in
+      record { opens = k.1.0; host = k.1.1.1.0 }
 
 module _ {E : Type 0} (s : State E) (h : IsInOrder s) where
   -- hosts

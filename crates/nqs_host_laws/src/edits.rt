@@ -48,6 +48,10 @@ fn conf_edit_stands(edit: &ConfEdit)
             dest_stands(destination);
             name_stands(queue);
         }
+        ConfEdit::FirstDestination { destination, queue } => {
+            dest_stands(destination);
+            name_stands(queue);
+        }
         ConfEdit::SetDefaultQueue { queue } => name_stands(queue),
         ConfEdit::SetNoDefaultQueue => {}
         ConfEdit::SetPatience { .. } => {}

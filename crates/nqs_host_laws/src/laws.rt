@@ -69,6 +69,16 @@ pub fn fitting_changes_may_stand(state: &HostState, change: &Change)
             hands_stand(hands.as_slice());
         }
         Change::HandDone { number, .. } => number_stands(*number),
+        Change::OldPromised {
+            number,
+            queue,
+            carried,
+            ..
+        } => {
+            number_stands(*number);
+            name_stands(queue);
+            carried_stands(carried);
+        }
         Change::Promised {
             number,
             queue,

@@ -6,11 +6,11 @@ ghost use Rattle.nqs_state.specs.State.{content};
 ghost use Rattle.nqs_handover.specs.Opened.{may_count_hops};
 
 use nqs_base::{ListOf, Memory};
-use nqs_builders::{add, host, job, queue, row, text};
+use nqs_builders::{add, host, job, peer, queue, row, text};
 use nqs_handover::{on_commit, on_inquire, on_offer, on_ready, on_tick, open_hand};
 use nqs_state::{HostState, Rows};
 use nqs_types::{
-    Body, Carried, Change, Dest, Hand, HostId, Kind, Output, Peer, Phase, Plan, Promise, QueueDef,
+    Body, Carried, Change, Dest, Hand, HostId, Kind, Output, Phase, Plan, Promise, QueueDef,
     RequestId, Row, batch,
 };
 use std::alloc::Global;
@@ -19,14 +19,6 @@ use std::rt::HostRuntime;
 const ALPHA: HostId = HostId(0);
 
 const BETA: HostId = HostId(1);
-
-const PEER: Peer = Peer {
-    next: 9,
-    closed: 0,
-    wait: 0,
-    stage_next: 1,
-    stage_got: 0,
-};
 
 fn pipe_queue(alloc: Global, dests: ListOf<Dest>) -> QueueDef {
     let mut queue = queue(alloc, batch());
@@ -58,7 +50,8 @@ fn promise(alloc: Global) -> Promise {
 // A host that knows beta, with a queue that leads there.
 fn fill_site(alloc: Global, state: &mut HostState) -> Result<(), Memory> {
     state.site = ListOf::from_vec([batch(), batch()].to_vec(alloc)?);
-    state.peers = ListOf::from_vec([PEER, PEER].to_vec(alloc)?);
+    state.peers.push(peer(alloc, 9, 1))?;
+    state.peers.push(peer(alloc, 9, 1))?;
     let there = Dest {
         queue: batch(),
         host: BETA,
@@ -156,7 +149,7 @@ fn offered(alloc: Global, state: &HostState) -> Result<Answer, Memory> {
         lost: 0,
         hops: 1,
     };
-    let plan = on_offer(alloc, state, BETA, 4, &batch(), &carried, &mut script);
+    let plan = on_offer(alloc, state, BETA, 4, 3, &batch(), &carried, &mut script);
     Ok(answer(&plan))
 }
 

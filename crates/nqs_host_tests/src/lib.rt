@@ -9,6 +9,8 @@ mod host;
 #[cfg(test)]
 mod lists;
 #[cfg(test)]
+mod numbers;
+#[cfg(test)]
 mod plans;
 #[cfg(test)]
 mod stage;

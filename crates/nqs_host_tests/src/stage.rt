@@ -2,10 +2,10 @@
 //! file that wasn't written.
 
 use nqs_base::{Bytes, Extent, Items, ListOf, Memory, Name};
-use nqs_builders::{add, host, row, text};
+use nqs_builders::{add, host, peer, row, text};
 use nqs_stage::on_end;
 use nqs_state::HostState;
-use nqs_types::{Body, Change, FileOut, HostId, Output, Peer, Plan, Row, RowState, Stage};
+use nqs_types::{Body, Change, FileOut, HostId, Output, Plan, Row, RowState, Stage};
 use std::alloc::Global;
 use std::rt::HostRuntime;
 
@@ -14,14 +14,6 @@ const BETA: HostId = HostId(1);
 const EXTENT: Extent = Extent {
     place: 7,
     length: 4,
-};
-
-const PEER: Peer = Peer {
-    next: 1,
-    closed: 0,
-    wait: 0,
-    stage_next: 3,
-    stage_got: 0,
 };
 
 fn name() -> Name {
@@ -62,7 +54,8 @@ fn file(path: Bytes) -> FileOut {
 // A host that knows another one, with a stage to it, and a file that wasn't written.
 fn fill(alloc: Global, state: &mut HostState) -> Result<(), Memory> {
     state.site = ListOf::from_vec([name(), name()].to_vec(alloc)?);
-    state.peers = ListOf::from_vec([PEER, PEER].to_vec(alloc)?);
+    state.peers.push(peer(alloc, 1, 3))?;
+    state.peers.push(peer(alloc, 1, 3))?;
     add(&mut state.stages, stage(text(alloc, b"o.1")?))?;
     add(&mut state.files, file(text(alloc, b"o.2")?))?;
     state.seq = 8;

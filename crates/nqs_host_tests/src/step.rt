@@ -7,7 +7,7 @@ ghost use Rattle.nqs_rules.specs.Format.{new_peer};
 ghost use Rattle.nqs_rules.specs.InOrder.{IsInOrder};
 ghost use Rattle.nqs_host_tests.specs.PlotHost.{plot_queue, plot_job, plot_row, plot_host, blank_host};
 
-use nqs_base::{Bytes, Extent, ListOf, Memory, Name, Spare};
+use nqs_base::{Bytes, Extent, Items, ListOf, Memory, Name, Spare};
 use nqs_base_tables::Table;
 use nqs_state::{HostState, Rows};
 use nqs_step::start::start;
@@ -29,14 +29,6 @@ const REQUEST: RequestId = RequestId {
 const NO_LIMITS: Limits = Limits {
     cpu: None,
     memory: None,
-};
-
-const NEW_PEER: Peer = Peer {
-    next: 1,
-    closed: 0,
-    wait: 0,
-    stage_next: 1,
-    stage_got: 0,
 };
 
 // The name of the host, of its queue, and of all else.
@@ -130,7 +122,7 @@ fn host(alloc: Global, seq: u32) -> HostState
         rows: Rows::new(alloc),
         hands: Table::new(alloc),
         promises: Table::new(alloc),
-        peers: ListOf::new(alloc),
+        peers: Items::new(alloc),
         stages: Table::new(alloc),
         files: Table::new(alloc),
         managers: ListOf::new(alloc),
@@ -145,6 +137,21 @@ fn host(alloc: Global, seq: u32) -> HostState
         spare_names: Spare::new(alloc),
         spare_dests: Spare::new(alloc),
         spare_refused: Spare::new(alloc),
+        spare_closed: Spare::new(alloc),
+    }
+}
+
+// What is known of a host at first.
+fn peer(alloc: Global) -> Peer
+    ensures { result ≡ new_peer }
+{
+    Peer {
+        next: 1,
+        floor: 0,
+        closed: ListOf::new(alloc),
+        wait: 0,
+        stage_next: 1,
+        stage_got: 0,
     }
 }
 
@@ -154,7 +161,7 @@ fn fill(alloc: Global, state: &mut HostState) -> Result<(), Memory>
     ensures { OnOk result (content state.new ≡ record (content state.old) { site = codes "plot" ∷ []; queues = plot_queue ∷ []; peers = new_peer ∷ [] }) }
 {
     state.site = ListOf::of(alloc, plot())?;
-    state.peers = ListOf::of(alloc, NEW_PEER)?;
+    state.peers = Items::of(alloc, peer(alloc))?;
     state.queues.reserve(1)?;
     state.queues.push(queue(alloc));
     Ok(())

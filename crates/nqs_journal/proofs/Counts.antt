@@ -1,5 +1,5 @@
 -- How many payloads a journal has.
-use Rattle.std.proofs.Common.{◌≡◌, ℕ, ◌+◌, ◌-◌, ◌^◌, ◌<◌, ◌≤◌, Bool, true, List, [], ◌∷◌, ◌++◌, length, refl, ap, sym, ◌∙◌, subst, arith, length-append}
+use Rattle.std.proofs.Common.{◌≡◌, ℕ, ◌+◌, ◌-◌, ◌^◌, ◌<◌, ◌≤◌, List, [], ◌∷◌, ◌++◌, length, refl, ap, sym, ◌∙◌, subst, arith, length-append}
 use Rattle.std.proofs.Math.Logic.{∥∥₁_elim, ∥∥₁_map}
 use Rattle.std.specs.Coded.{Coded-set, coded_ℕ}
 use Rattle.nqs_outside.specs.History.{History, extended, content, IsQuiet}
@@ -27,12 +27,12 @@ within front bytes payloads stands =
     omega (arith, ap length stands.text, length-append (front ++ records payloads) (stands.gate ∷ stands.rest))
 
 -- a quiet disk that was read, and did nothing since
-pub counted_by : (h k : History) (gate count : ℕ) (has : Bool) (snapshot : List ℕ) (payloads : List (List ℕ)) → k ≡ h → IsQuiet h
-    → StandsBy (content h) has snapshot payloads → gate ≡ length (front_of has snapshot ++ records payloads) → count ≡ length payloads
+pub counted_by : (h k : History) (gate count version : ℕ) (snapshot : List ℕ) (payloads : List (List ℕ)) → k ≡ h → IsQuiet h
+    → StandsBy (content h) version snapshot payloads → gate ≡ length (front_of version snapshot ++ records payloads) → count ≡ length payloads
     → ∥ IsCounted k gate count ∥₁
-counted_by h k gate count has snapshot payloads same quiet stands gate_is count_is = counted_same h k gate count same
+counted_by h k gate count version snapshot payloads same quiet stands gate_is count_is = counted_same h k gate count same
     ∣ record {
-      has = has;
+      version = version;
       snapshot = snapshot;
       payloads = payloads;
       is = stands.0;
@@ -43,11 +43,11 @@ counted_by h k gate count has snapshot payloads same quiet stands gate_is count_
 pub counted_more : (h k : History) (gate count : ℕ) (payload : List ℕ) → length payload ≤ 65536 → k ≡ extended h (append_calls gate payload)
     → ∥ IsCounted h gate count ∥₁ → ∥ IsCounted k (gate + (5 + length payload)) (count + 1) ∥₁
 counted_more h k gate count payload short made counted = ∥∥₁_map counted (λ c. record {
-  has = c.has;
+  version = c.version;
   snapshot = c.snapshot;
   payloads = c.payloads ++ payload ∷ [];
   is = c.is;
-  opened = acknowledged h (front_of c.has c.snapshot) gate c.payloads payload c.opened short k made;
+  opened = acknowledged h (front_of c.version c.snapshot) gate c.payloads payload c.opened short k made;
   count_is = omega (arith, c.count_is, length-append c.payloads (payload ∷ []));
 })
 
@@ -59,7 +59,7 @@ text_size snapshot text is = omega (arith, ap length is, length-append (snapshot
 pub counted_none : (k : History) (snapshot text : List ℕ) → length snapshot < 2 ^ 64 → text ≡ snapshot_front snapshot ++ 0 ∷ []
     → IsOpen k (snapshot_front snapshot) (length (snapshot_front snapshot)) [] → ∥ IsCounted k (length text - 1) 0 ∥₁
 counted_none k snapshot text small is opened = ∣ record {
-  has = true;
+  version = 2;
   snapshot = snapshot;
   payloads = [];
   is = small;
@@ -72,8 +72,8 @@ counted_none k snapshot text small is opened = ∣ record {
 } ∣₁
 
 -- the count is that of the payloads that are told by one of the forms
-pub counted_is : (h : History) (gate count : ℕ) (has : Bool) (snapshot : List ℕ) (payloads : List (List ℕ)) → ∥ IsCounted h gate count ∥₁
-    → IsSnapshot has snapshot → IsOpen h (front_of has snapshot) gate payloads → count ≡ length payloads
-counted_is h gate count has snapshot payloads counted is opened = ∥∥₁_elim counted (Coded-set coded_ℕ _ _) (λ c.
-    let same = one_reading (content h) c.has has c.snapshot snapshot c.payloads payloads (c.is, c.opened.stands) (is, opened.stands) in
+pub counted_is : (h : History) (gate count version : ℕ) (snapshot : List ℕ) (payloads : List (List ℕ)) → ∥ IsCounted h gate count ∥₁
+    → IsSnapshot version snapshot → IsOpen h (front_of version snapshot) gate payloads → count ≡ length payloads
+counted_is h gate count version snapshot payloads counted is opened = ∥∥₁_elim counted (Coded-set coded_ℕ _ _) (λ c.
+    let same = one_reading (content h) c.version version c.snapshot snapshot c.payloads payloads (c.is, c.opened.stands) (is, opened.stands) in
     c.count_is ∙ ap length same.2)

@@ -1,24 +1,21 @@
 -- A text has one first fault at most.
-use Rattle.std.proofs.Common.{◌≡◌, inl, inr, ℕ, ◌+◌, ◌<◌, ◌≤◌, Bool, List, [], ◌∷◌, ◌++◌, length, take, refl, sym, ap, ◌∙◌, arith, append_assoc}
+use Rattle.std.proofs.Common.{◌≡◌, inl, inr, ℕ, ◌+◌, ◌<◌, ◌≤◌, List, [], ◌∷◌, ◌++◌, length, take, refl, sym, ap, ◌∙◌, arith, append_assoc}
 use Rattle.std.specs.List.{AllByRecursion}
 use Rattle.std.proofs.lemmas.List.{take-take}
 use Rattle.nqs_journal.specs.Text.{header, frame, records, IsShort, LeavesRecordsAfter}
-use Rattle.nqs_journal.specs.Either.{snapshot_header, front_of, IsSnapshot, IsEitherFaultAt, LeavesHeaders}
+use Rattle.nqs_journal.specs.Either.{header_of, front_of, IsSnapshot, IsEitherFaultAt, LeavesHeaders}
 use Rattle.nqs_journal.proofs.Frames.{frame_cancel}
 use Rattle.nqs_journal.proofs.NoFault.{IsBadEnd}
 use Rattle.nqs_journal.proofs.Fronts.{front_cancel}
-use Rattle.nqs_journal.proofs.Eithers.{headers, begins, cut}
+use Rattle.nqs_journal.proofs.Eithers.{headers, no_header, cut}
 
 -- what one list begins with, shorter
 shorter : (bytes other : List ℕ) (m n : ℕ) → m ≤ n → take n bytes ≡ take n other → take m bytes ≡ take m other
 shorter bytes other m n le same = sym (take-take m n bytes le) ∙ ap (take m) same ∙ take-take m n other le
 
--- where the bytes leave both headers they agree with neither further on
+-- where the bytes leave all headers they agree with none further on
 not_before : (bytes : List ℕ) (p q : ℕ) → LeavesHeaders bytes p → LeavesHeaders bytes q → p < q → ⊥
-not_before bytes p q one two lt = elim two.same [
-  | inl same ↦ one.no_header (shorter bytes header (p + 1) q (omega (arith, lt)) same)
-  | inr same ↦ one.no_snapshot_header (shorter bytes snapshot_header (p + 1) q (omega (arith, lt)) same)
-]
+not_before bytes p q one two lt = one.none two.same.0 (shorter bytes (header_of two.same.0) (p + 1) q (omega (arith, lt)) two.same.1)
 
 same_place : (p q : ℕ) → (p < q → ⊥) → (q < p → ⊥) → p ≡ q
 same_place p q no_less no_more = grind (arith, no_less, no_more)
@@ -46,24 +43,22 @@ same_ends (p ∷ ps) (q ∷ qs) x y short_p short_q same bad worse =
 front_text : (front bytes : List ℕ) (place : ℕ) (leaves : LeavesRecordsAfter front bytes place) → bytes ≡ front ++ (records leaves.payloads ++ leaves.rest)
 front_text front bytes place leaves = leaves.text ∙ append_assoc front (records leaves.payloads) leaves.rest
 
-same_records_fault : (bytes : List ℕ) (p q : ℕ) (has had : Bool) (s t : List ℕ) → IsSnapshot has s → IsSnapshot had t
-    → LeavesRecordsAfter (front_of has s) bytes p → LeavesRecordsAfter (front_of had t) bytes q → p ≡ q
-same_records_fault bytes p q has had s t is was one two =
-    let fronts = front_cancel has had s t (records one.payloads ++ one.rest) (records two.payloads ++ two.rest) is was
+same_records_fault : (bytes : List ℕ) (p q v w : ℕ) (s t : List ℕ) → IsSnapshot v s → IsSnapshot w t
+    → LeavesRecordsAfter (front_of v s) bytes p → LeavesRecordsAfter (front_of w t) bytes q → p ≡ q
+same_records_fault bytes p q v w s t is was one two =
+    let fronts = front_cancel v w s t (records one.payloads ++ one.rest) (records two.payloads ++ two.rest) is was
     (sym (front_text _ bytes p one) ∙ front_text _ bytes q two) in
     let payloads = same_ends one.payloads two.payloads one.rest two.rest one.short two.short fronts.2 one.bad two.bad in
-    one.is_place ∙ ap (λ ps. length (front_of has s ++ records ps)) payloads ∙ ap (λ f. length (front_of f s ++ records two.payloads)) fronts.0
-    ∙ ap (λ l. length (front_of had l ++ records two.payloads)) fronts.1 ∙ sym two.is_place
+    one.is_place ∙ ap (λ ps. length (front_of v s ++ records ps)) payloads ∙ ap (λ f. length (front_of f s ++ records two.payloads)) fronts.0
+    ∙ ap (λ l. length (front_of w l ++ records two.payloads)) fronts.1 ∙ sym two.is_place
 
 pub one_fault : (bytes : List ℕ) (place other : ℕ) → IsEitherFaultAt bytes place → IsEitherFaultAt bytes other → place ≡ other
 one_fault bytes p q (inl (inl one)) (inl (inl two)) = same_place p q (not_before bytes p q one two) (not_before bytes q p two one)
-one_fault bytes p q (inl (inl one)) (inl (inr two)) = absurd (one.no_snapshot_header (begins snapshot_header two.rest bytes (p + 1) two.text
-    (omega (arith, one.within))))
-one_fault bytes p q (inl (inl one)) (inr (had, t, was, two)) = absurd (headers bytes _ had t p (front_text _ bytes q two) one)
-one_fault bytes p q (inl (inr one)) (inl (inl two)) = absurd (two.no_snapshot_header (begins snapshot_header one.rest bytes (q + 1) one.text
-    (omega (arith, two.within))))
+one_fault bytes p q (inl (inl one)) (inl (inr two)) = absurd (no_header bytes two.rest two.version p two.text one)
+one_fault bytes p q (inl (inl one)) (inr (w, t, was, two)) = absurd (headers bytes _ w t p (front_text _ bytes q two) one)
+one_fault bytes p q (inl (inr one)) (inl (inl two)) = absurd (no_header bytes one.rest one.version q one.text two)
 one_fault bytes p q (inl (inr one)) (inl (inr two)) = one.is_place ∙ sym two.is_place
-one_fault bytes p q (inl (inr one)) (inr (had, t, was, two)) = absurd (cut bytes _ had t p was (front_text _ bytes q two) one)
-one_fault bytes p q (inr (has, s, is, one)) (inl (inl two)) = absurd (headers bytes _ has s q (front_text _ bytes p one) two)
-one_fault bytes p q (inr (has, s, is, one)) (inl (inr two)) = absurd (cut bytes _ has s q is (front_text _ bytes p one) two)
-one_fault bytes p q (inr (has, s, is, one)) (inr (had, t, was, two)) = same_records_fault bytes p q has had s t is was one two
+one_fault bytes p q (inl (inr one)) (inr (w, t, was, two)) = absurd (cut bytes _ w t p was (front_text _ bytes q two) one)
+one_fault bytes p q (inr (v, s, is, one)) (inl (inl two)) = absurd (headers bytes _ v s q (front_text _ bytes p one) two)
+one_fault bytes p q (inr (v, s, is, one)) (inl (inr two)) = absurd (cut bytes _ v s q is (front_text _ bytes p one) two)
+one_fault bytes p q (inr (v, s, is, one)) (inr (w, t, was, two)) = same_records_fault bytes p q v w s t is was one two

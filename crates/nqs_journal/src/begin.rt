@@ -15,7 +15,8 @@ use nqs_base::Memory;
 use nqs_outside::{Disk, Failed};
 use std::alloc::{AllocError, Global};
 
-pub(crate) const SNAPSHOT: [u8; 16] = *b"NQS-SNAPSHOT-v1\n";
+/// What a journal that begins with a snapshot begins with.
+pub(crate) const SNAPSHOT: [u8; 16] = *b"NQS-SNAPSHOT-v2\n";
 
 /// The whole text of a journal that begins with this snapshot and has no record, for
 /// `Journal::begin_anew`. `Memory` makes nothing.

@@ -1,4 +1,4 @@
-//! The snapshot and the payloads that the bytes of a disk stand for, by either form of a journal.
+//! The snapshot and the payloads that the bytes of a disk stand for, by any form of a journal.
 ghost use Rattle.std.specs.Prelude.{◌≡◌, ◌+◌, ◌<◌, ◌≤◌, ◌^◌, ◌++◌, ℕ, List, IsTrue, IsErrOf, OnOk, OnErr, IfOk, IfErr, length};
 ghost use Rattle.nqs_outside.specs.Reads.{FailedToRead, OnlyReads};
 ghost use Rattle.nqs_outside.specs.History.{content, moment, IsWhole};
@@ -14,10 +14,12 @@ use nqs_base::Bytes;
 use nqs_outside::Disk;
 use std::alloc::Global;
 
-/// What was read: whether there is a snapshot, and the place of the closed gate behind the records.
+/// What was read.
 #[derive(Clone, Copy)]
 pub(crate) struct Found {
-    pub has_snapshot: bool,
+    /// Of the snapshot's header, 1 or 2; 0 where there is no snapshot.
+    pub version: u8,
+    /// The place of the closed gate behind the records.
     pub gate: u64,
     /// How many payloads stand before it.
     pub count: u64,
@@ -30,9 +32,9 @@ pub(crate) fn add_text(
     snapshot: &mut Vec<u8>,
     found: &mut Vec<Bytes>,
 ) -> Result<Found, JournalFault>
-    ensures added { IfOk result (λ told. (front : List ℕ) × (payloads : List (List ℕ)) × StandsBy bytes.now told.has_snapshot front payloads
+    ensures added { IfOk result (λ told. (front : List ℕ) × (payloads : List (List ℕ)) × StandsBy bytes.now told.version front payloads
         × (snapshot.new.items ≡ snapshot.old.items ++ front) × (found.new.items ≡ found.old.items ++ payloads)
-        × (told.gate ≡ length (front_of told.has_snapshot front ++ records payloads))) }
+        × (told.gate ≡ length (front_of told.version front ++ records payloads))) }
     ensures within { IfOk result (λ told. told.gate < length bytes.now) }
     ensures counted { IfOk result (λ told. length found.new.items ≡ length found.old.items + told.count) }
     ensures few { IfOk result (λ told. told.count ≤ told.gate) }
@@ -49,7 +51,7 @@ pub(crate) fn add_text(
     found.append(&mut reading.payloads)?;
     snapshot.extend_from_slice(front.snapshot).unwrap();
     Ok(Found {
-        has_snapshot: front.has_snapshot,
+        version: front.version,
         gate: reading.gate,
         count,
     })
@@ -63,13 +65,13 @@ pub(crate) fn add_journal<D: Disk>(
     found: &mut Vec<Bytes>,
 ) -> Result<Found, JournalFault>
     ensures added { IsTrue D.tells → IfOk result (λ told. (front : List ℕ) × (payloads : List (List ℕ))
-        × StandsBy (content (D.history disk.old)) told.has_snapshot front payloads
+        × StandsBy (content (D.history disk.old)) told.version front payloads
         × (snapshot.new.items ≡ snapshot.old.items ++ front) × (found.new.items ≡ found.old.items ++ payloads)
-        × (told.gate ≡ length (front_of told.has_snapshot front ++ records payloads))
+        × (told.gate ≡ length (front_of told.version front ++ records payloads))
         × (told.gate < length (content (D.history disk.old)))) }
-    ensures small { IfOk result (λ told. (front : List ℕ) × (payloads : List (List ℕ)) × IsSnapshot told.has_snapshot front
+    ensures small { IfOk result (λ told. (front : List ℕ) × (payloads : List (List ℕ)) × IsSnapshot told.version front
         × (snapshot.new.items ≡ snapshot.old.items ++ front) × (found.new.items ≡ found.old.items ++ payloads)
-        × (told.gate ≡ length (front_of told.has_snapshot front ++ records payloads)) × (told.gate ≤ 2 ^ 40)) }
+        × (told.gate ≡ length (front_of told.version front ++ records payloads)) × (told.gate ≤ 2 ^ 40)) }
     ensures counted { IfOk result (λ told. length found.new.items ≡ length found.old.items + told.count) }
     ensures few { IfOk result (λ told. told.count ≤ told.gate) }
     ensures unchanged { OnErr result ((snapshot.new.items ≡ snapshot.old.items) × (found.new.items ≡ found.old.items)) }
@@ -87,23 +89,23 @@ pub(crate) fn add_journal<D: Disk>(
     add_text(alloc, &bytes, snapshot, found)
 }
 
-/// Adds the snapshot's bytes, where there is one, and the payloads that a read finds now, by either
-/// form of a journal. `true` says that there is a snapshot. It writes nothing. `NotJournal` tells
-/// the first byte at which neither header goes on, 16 where the snapshot or its length runs past
-/// the end, or the gate at which the bytes end or behind which no record stands. An `Err` changes
-/// nothing.
+/// Adds the snapshot's bytes, where there is one, and the payloads that a read finds now, by any
+/// form of a journal. The answer is 0 where there is no snapshot, else the version of its header,
+/// 1 or 2. It writes nothing. `NotJournal` tells the first byte at which none of the headers goes
+/// on, 16 where the snapshot or its length runs past the end, or the gate at which the bytes end or
+/// behind which no record stands. An `Err` changes nothing.
 pub fn read_either<D: Disk>(
     alloc: Global,
     disk: &mut D,
     snapshot: &mut Vec<u8>,
     found: &mut Vec<Bytes>,
-) -> Result<bool, JournalFault>
-    ensures found { IsTrue D.tells → IfOk result (λ has. (front : List ℕ) × (payloads : List (List ℕ))
-        × StandsBy (content (D.history disk.old)) has front payloads
+) -> Result<u8, JournalFault>
+    ensures found { IsTrue D.tells → IfOk result (λ version. (front : List ℕ) × (payloads : List (List ℕ))
+        × StandsBy (content (D.history disk.old)) version front payloads
         × (snapshot.new.items ≡ snapshot.old.items ++ front) × (found.new.items ≡ found.old.items ++ payloads)) }
-    ensures small { IfOk result (λ has. (front : List ℕ) × (payloads : List (List ℕ)) × IsSnapshot has front
+    ensures small { IfOk result (λ version. (front : List ℕ) × (payloads : List (List ℕ)) × IsSnapshot version front
         × (snapshot.new.items ≡ snapshot.old.items ++ front) × (found.new.items ≡ found.old.items ++ payloads)
-        × (length (front_of has front ++ records payloads) ≤ 2 ^ 40)) }
+        × (length (front_of version front ++ records payloads) ≤ 2 ^ 40)) }
     ensures unchanged { OnErr result ((snapshot.new.items ≡ snapshot.old.items) × (found.new.items ≡ found.old.items)) }
     ensures fault { IsTrue D.tells → IfErr result (IsEitherLoadFault (content (D.history disk.old))) }
     ensures only { IfErr result IsReadingFault }
@@ -116,7 +118,7 @@ pub fn read_either<D: Disk>(
     ensures faultless { OnOk result (D.faults disk.new ≡ D.faults disk.old) }
 {
     match add_journal(alloc, disk, snapshot, found) {
-        Ok(told) => Ok(told.has_snapshot),
+        Ok(told) => Ok(told.version),
         Err(fault) => Err(fault),
     }
 }

@@ -193,15 +193,16 @@ impl<D: Disk> Journal<D> {
         })
     }
 
-    /// Opens a journal of either form, adds the snapshot's bytes to those handed in, where there is
-    /// one, and the payloads to those found. `true` says that there is a snapshot. `NotJournal`
-    /// tells the place that `read_either` tells. On a refusal both lists are as before.
+    /// Opens a journal of any form, adds the snapshot's bytes to those handed in, where there is
+    /// one, and the payloads to those found. Beside the journal stands 0 where there is no
+    /// snapshot, else the version of its header, 1 or 2. `NotJournal` tells the place that
+    /// `read_either` tells. On a refusal both lists are as before.
     pub fn load_either(
         alloc: Global,
         disk: D,
         snapshot: &mut Vec<u8>,
         found: &mut Vec<Bytes>,
-    ) -> Result<(Journal<D>, bool), (JournalFault, D)>
+    ) -> Result<(Journal<D>, u8), (JournalFault, D)>
         requires { IsTrue D.tells → IsQuiet (D.history disk) }
         ensures tells { IsTrue D.tells → IfOk result (λ told. (front : List ℕ) × (payloads : List (List ℕ)) × IsSnapshot told.1 front
             × Tells told.0 (front_of told.1 front) payloads
@@ -238,7 +239,7 @@ impl<D: Disk> Journal<D> {
             buffer,
             stopped: false,
         };
-        Ok((journal, told.has_snapshot))
+        Ok((journal, told.version))
     }
 
     /// Makes a disk the journal of a snapshot, whatever stood there.
@@ -348,8 +349,8 @@ impl<D: Disk> Journal<D> {
     /// failed.
     pub fn count(&self) -> u64
         ensures counted { result ≡ count_of self.now }
-        ensures told { IsTrue D.tells → is_stopped self.now ≡ false → (has : Bool) (snapshot : List ℕ) (payloads : List (List ℕ))
-            → IsSnapshot has snapshot → Tells self.now (front_of has snapshot) payloads → result ≡ length payloads }
+        ensures told { IsTrue D.tells → is_stopped self.now ≡ false → (version : ℕ) (snapshot : List ℕ) (payloads : List (List ℕ))
+            → IsSnapshot version snapshot → Tells self.now (front_of version snapshot) payloads → result ≡ length payloads }
     {
         self.count
     }
@@ -402,16 +403,16 @@ impl<D: Disk> Journal<D> {
         alloc: Global,
         snapshot: &mut Vec<u8>,
         found: &mut Vec<Bytes>,
-    ) -> Result<bool, JournalFault>
-        ensures stands { IsTrue D.tells → IfOk result (λ has. (front : List ℕ) × (payloads : List (List ℕ))
-            × StandsBy (content (history_of self.old)) has front payloads
+    ) -> Result<u8, JournalFault>
+        ensures stands { IsTrue D.tells → IfOk result (λ version. (front : List ℕ) × (payloads : List (List ℕ))
+            × StandsBy (content (history_of self.old)) version front payloads
             × (snapshot.new.items ≡ snapshot.old.items ++ front) × (found.new.items ≡ found.old.items ++ payloads)) }
-        ensures found { IsTrue D.tells → IfOk result (λ has. (told : Bool) (front : List ℕ) (payloads : List (List ℕ)) → IsSnapshot told front
+        ensures found { IsTrue D.tells → IfOk result (λ version. (told : ℕ) (front : List ℕ) (payloads : List (List ℕ)) → IsSnapshot told front
             → Tells self.old (front_of told front) payloads
-            → (has ≡ told) × (snapshot.new.items ≡ snapshot.old.items ++ front) × (found.new.items ≡ found.old.items ++ payloads)) }
-        ensures small { IfOk result (λ has. (front : List ℕ) × (payloads : List (List ℕ)) × IsSnapshot has front
+            → (version ≡ told) × (snapshot.new.items ≡ snapshot.old.items ++ front) × (found.new.items ≡ found.old.items ++ payloads)) }
+        ensures small { IfOk result (λ version. (front : List ℕ) × (payloads : List (List ℕ)) × IsSnapshot version front
             × (snapshot.new.items ≡ snapshot.old.items ++ front) × (found.new.items ≡ found.old.items ++ payloads)
-            × (length (front_of has front ++ records payloads) ≤ 2 ^ 40)) }
+            × (length (front_of version front ++ records payloads) ≤ 2 ^ 40)) }
         ensures unchanged { OnErr result ((snapshot.new.items ≡ snapshot.old.items) × (found.new.items ≡ found.old.items)) }
         ensures tells { IsTrue D.tells → (front : List ℕ) (payloads : List (List ℕ)) → Tells self.old front payloads → Tells self.new front payloads }
         ensures fault { IsTrue D.tells → IfErr result (IsEitherLoadFault (content (history_of self.old))) }

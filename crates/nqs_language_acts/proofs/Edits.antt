@@ -134,6 +134,8 @@ each_allows =
     & (λ u q. refl)
     & (λ u. refl)
     & (λ u. refl)
+    -- first
+    & (λ d q. refl)
     -- hold
     & (λ r. refl)
     -- release

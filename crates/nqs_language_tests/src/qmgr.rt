@@ -3,7 +3,8 @@
 use nqs_base::Name;
 use nqs_qmgr::read_qmgr;
 use nqs_types::{
-    AccessEdit, Command, ConfEdit, DevicesEdit, Edit, GrammarFault, LimitsEdit, Named, RowsEdit,
+    AccessEdit, Command, ConfEdit, DevicesEdit, Edit, GrammarFault, LimitsEdit, Named, NamedDest,
+    RowsEdit,
 };
 use std::rt::HostRuntime;
 
@@ -26,6 +27,7 @@ fn conf_code(edit: ConfEdit) -> u8 {
         ConfEdit::SetNoDefaultQueue => 40,
         ConfEdit::SetPatience { .. } => 41,
         ConfEdit::SetRetryWait { .. } => 42,
+        ConfEdit::FirstDestination { .. } => 54,
     }
 }
 
@@ -94,7 +96,7 @@ fn command_code(command: &Command) -> u8 {
         Command::Delete { kill, .. } => { if *kill { 47 } else { 0 } }
         Command::Show(code) => *code,
         Command::Shutdown => 53,
-        Command::Why(_) => 54,
+        Command::Why(_) => 55,
         _ => 0,
     }
 }
@@ -129,7 +131,7 @@ fn fault(line: &[u8]) -> Option<GrammarFault> {
 }
 
 /// A line of each kind, and its number.
-static LINES: [(&[u8], u8); 55] = [
+static LINES: [(&[u8], u8); 57] = [
     (b"create batch_queue q priority=5 run_limit=3 pipeonly", 1),
     (b"create device_queue q", 2),
     (b"create pipe_queue q destination=a@b", 3),
@@ -183,8 +185,10 @@ static LINES: [(&[u8], u8); 55] = [
     (b"show managers", 51),
     (b"show parameters", 52),
     (b"\tshutdown ", 53),
-    (b"show why 1.a", 54),
-    (b"SHO\tWh  1.a ", 54),
+    (b"first destination=a@b q", 54),
+    (b"FI\tDe=a@b q", 54),
+    (b"show why 1.a", 55),
+    (b"SHO\tWh  1.a ", 55),
 ];
 
 #[test]
@@ -248,6 +252,24 @@ fn frees_memory_by(line: &[u8], name: &Name) -> bool {
     }
 }
 
+// Whether it puts this destination first of this queue.
+fn puts_first(edit: &ConfEdit, destination: &NamedDest, name: &Name) -> bool {
+    match edit {
+        ConfEdit::FirstDestination {
+            destination: put,
+            queue,
+        } => put == destination && queue == name,
+        _ => false,
+    }
+}
+
+fn puts_first_by(line: &[u8], destination: &NamedDest, name: &Name) -> bool {
+    match edit(line) {
+        Some(Edit::Conf(edit)) => puts_first(&edit, destination, name),
+        _ => false,
+    }
+}
+
 // The request of which it is asked why it waits.
 fn asked_of(command: &Command) -> Option<Named> {
     match command {
@@ -286,8 +308,42 @@ fn reads_values(rt: HostRuntime) {
     assert_eq!(rt; Name::read(b"q").map(values).ok(), Some([true; 4]));
 }
 
+fn name(bytes: &[u8]) -> Name {
+    match Name::read(bytes) {
+        Ok(name) => name,
+        Err(_) => match Name::read(b"bad") {
+            Ok(name) => name,
+            Err(_) => unreachable!(),
+        },
+    }
+}
+
+// Which queue of which host comes first in which pipe queue.
+fn firsts() -> [bool; 4] {
+    let p = name(b"p");
+    let destination = NamedDest {
+        queue: name(b"q"),
+        host: name(b"h"),
+    };
+    let turned = NamedDest {
+        queue: name(b"h"),
+        host: name(b"q"),
+    };
+    [
+        puts_first_by(b"first destination=q@h p", &destination, &p),
+        puts_first_by(b"first destination=h@q p", &turned, &p),
+        puts_first_by(b"first destination=q@h p", &turned, &p),
+        puts_first_by(b"first destination=q@h q", &destination, &p),
+    ]
+}
+
+#[test]
+fn reads_who_comes_first(rt: HostRuntime) {
+    assert_eq!(rt; firsts(), [true, true, false, false]);
+}
+
 /// A line, and its fault.
-static BAD: [(&[u8], GrammarFault); 33] = [
+static BAD: [(&[u8], GrammarFault); 46] = [
     (b"st queue batch", GrammarFault::Ambiguous(0)),
     (b"frob x", GrammarFault::UnknownWord(0)),
     (b"s", GrammarFault::UnknownWord(0)),
@@ -324,6 +380,19 @@ static BAD: [(&[u8], GrammarFault); 33] = [
     (b"show why=1.a", GrammarFault::Extra(5)),
     (b"show why 01.a", GrammarFault::BadNumber(9)),
     (b"show why 1.9", GrammarFault::BadName(9)),
+    (b"first", GrammarFault::Missing(5)),
+    (b"first out destination=a@b", GrammarFault::UnknownWord(6)),
+    (b"first queue=q p", GrammarFault::UnknownWord(6)),
+    (b"first destination p", GrammarFault::Missing(17)),
+    (b"first destination= p", GrammarFault::BadName(18)),
+    (b"first destination=q p", GrammarFault::BadName(18)),
+    (b"first destination=q@9 p", GrammarFault::BadName(18)),
+    (b"first destination=q@h", GrammarFault::Missing(21)),
+    (b"first destination=q@h 9", GrammarFault::BadName(22)),
+    (b"first destination=q@h p q", GrammarFault::Extra(24)),
+    (b"first=q@h destination p", GrammarFault::Extra(0)),
+    (b"destination=q@h first p", GrammarFault::UnknownWord(0)),
+    (b"f destination=q@h p", GrammarFault::UnknownWord(0)),
 ];
 
 #[test]

@@ -1,5 +1,5 @@
 -- The table that the hosts tell, after each change.
-use Rattle.std.proofs.Common.{◌≡◌, ℕ, ◌+◌, ◌<◌, ◌≤◌, ◌⊎◌, inl, inr, Bool, true, false, ◌==◌, nat_le, List, [], ◌∷◌, ◌++◌, find, slice_get, Option, None, Some}
+use Rattle.std.proofs.Common.{◌≡◌, ℕ, ◌+◌, ◌<◌, ◌≤◌, ◌⊎◌, inl, inr, Bool, true, false, ◌&&◌, ◌==◌, nat_le, nat_lt, List, [], ◌∷◌, ◌++◌, find, slice_get, Option, None, Some}
 use Rattle.std.proofs.Common.{true≢false, refl, sym, ap, subst, ◌∙◌, arith, if◌then◌else◌}
 use Rattle.std.proofs.lemmas.Bool.{and_parts, leb-true}
 use Rattle.std.proofs.lemmas.Option.{same_Some}
@@ -23,7 +23,7 @@ use Rattle.nqs_types.specs.declared.edit.Edit.{Edit}
 use Rattle.nqs_types.specs.declared.edit.Edit.TheVariants.{Conf, Limits as LimitsOf, Access as AccessOf, Devices as DevicesOf, Rows as RowsOf}
 use Rattle.nqs_types.specs.declared.change.Change.{Change}
 use Rattle.nqs_types.specs.declared.change.Change.TheVariants.{Site, Submitted, Deleted, Ended, Edited, HandOpened, HandCommitted, HandRefused, HandsSilent}
-use Rattle.nqs_types.specs.declared.change.Change.TheVariants.{HandDone, Promised, Accepted, Dropped, StageGot}
+use Rattle.nqs_types.specs.declared.change.Change.TheVariants.{HandDone, OldPromised, Promised, Accepted, Dropped, StageGot}
 use Rattle.nqs_types.specs.declared.message.Message.{Message}
 use Rattle.nqs_state.proofs.LeastLemmas.{found_id}
 use Rattle.nqs_rules.specs.Tests.{same_host}
@@ -47,17 +47,17 @@ use Rattle.nqs_rules.proofs.ConsistentOrder.{silent_calm_one}
 use Rattle.nqs_rules.proofs.OutputsKept.{file_keeps, outputs_keep}
 use Rattle.nqs_rules.proofs.OutputsOrder.{put_twice}
 use Rattle.nqs_rules.specs.Picked.{PlainRow}
-use Rattle.nqs_laws.specs.Loads.{sent_load}
+use Rattle.nqs_laws.specs.Loads.{Load, sent_load}
 use Rattle.nqs_laws.proofs.Frame.{put_state, put-same}
 use Rattle.nqs_laws.proofs.Sound.{get-here}
 use Rattle.nqs_laws.proofs.After.{Request, changed_at, after, row_after, silent_found}
 use Rattle.nqs_laws.proofs.Spares.{IsNew, changed_none, grows}
 use Rattle.nqs_laws.proofs.Pair.{Move, Stays, Withdraws, Finishes, Pledges, Drops}
-use Rattle.nqs_laws.proofs.Views.{Pledging, host_exact, host_same}
-use Rattle.nqs_laws.proofs.Turns.{to_move, from_move, deleted_move, offers_by, sources, silent_source}
-use Rattle.nqs_laws.proofs.Targets.{targets, silent_target, fewer, lone_kept}
-use Rattle.nqs_laws.proofs.Paired.{At, IsPaired, Turn, GuardsOf, IsOne, turn_paired}
-use Rattle.nqs_laws.proofs.PairedRuns.{one_side, silent_guards}
+use Rattle.nqs_laws.proofs.Views.{Pledging, has_number_key, host_exact, host_same}
+use Rattle.nqs_laws.proofs.Turns.{to_move, from_move, deleted_move, offers_by, promised_move}
+use Rattle.nqs_laws.proofs.Targets.{IsLowRight}
+use Rattle.nqs_laws.proofs.Paired.{At, IsPaired, Turn, GuardsOf, IsOne, turn_of, turn_paired}
+use Rattle.nqs_laws.proofs.PairedRuns.{one_side, silent_guards, silent_turn}
 use Rattle.nqs_laws.proofs.Tabled.{Place, Nowhere, Sits, Arrives, row_in, Table, IsTabled, IsHeldMove, held_or, updated, placed_at, rows_tabled}
 
 -- the last number given grows
@@ -156,7 +156,7 @@ updated_twice h o p (Sits g r) = by (same_host g h) refl o
     by true e None = refl
     by true e (Some q) = ap (λ b. if b then placed_at h p else Sits h q) (host_same h)
     by false e o = ap (λ b. if b then placed_at h p else Sits g r) e
-updated_twice h o p (Arrives a b r) = refl
+updated_twice h o p (Arrives a b n r) = refl
 
 pub updated_same : (h : HostId) (t : Place) → updated h (row_in h t) t ≡ t
 updated_same h Nowhere = refl
@@ -167,7 +167,7 @@ updated_same h (Sits g r) = by (same_host g h) refl
         let same : g ≡ h = host_exact g h e in
         ap (placed_at h) ((λ j. row_in h (Sits (same j) r)) ∙ ap (λ b. if b then Some r else None) (host_same h)) ∙ (λ j. Sits (sym same j) r)
     by false e = refl
-updated_same h (Arrives a b r) = refl
+updated_same h (Arrives a b n r) = refl
 
 same_table : (states : List Plain) (t u : Table) → ((x : Request) → t x ≡ u x) → IsTabled states t → IsTabled states u
 same_table states t u e k = subst (IsTabled states) (λ j x. e x j) k
@@ -187,28 +187,37 @@ host_new (Submitted queue job script) s x k new = new
 host_new (Accepted peer number) s x k new = absurd k
 host_new c s x k new = absurd new
 
-held_to : (c : Change (List ℕ)) (s : Plain) (b : HostId) → IsInHost c → IsHeldMove (to_move c s b)
-held_to (Deleted id) s b k = of (find _ s.hands)
+held_to : (c : Change (List ℕ)) (s : Plain) (b : HostId) (n : ℕ) → IsInHost c → IsHeldMove (to_move c s b n)
+held_to (Deleted id) s b n k = of (find_hand b n s)
   where
     of : (x : Option Hand) → IsHeldMove (deleted_move id x)
     of None = tt
     of (Some y) = held_or _ Withdraws tt
-held_to (HandOpened peer number id queue since) s b k = by (same_host b peer) (find_row id s)
+held_to (HandOpened peer number id queue since) s b n k = by (has_number_key b n (peer_number peer number)) (find_row id s)
   where
     by : (z : Bool) (o : Option PlainRow) → IsHeldMove (if z then offers_by queue o else Stays)
     by true None = tt
     by true (Some r) = tt
     by false o = tt
-held_to (HandCommitted peer number) s b k = absurd k
-held_to (HandRefused peer number refusal) s b k = held_or (same_host b peer) Withdraws tt
-held_to (HandDone peer number) s b k = held_or (same_host b peer) Finishes tt
-held_to c s b k = tt
+held_to (HandCommitted peer number) s b n k = absurd k
+held_to (HandRefused peer number refusal) s b n k = held_or (has_number_key b n (peer_number peer number)) Withdraws tt
+held_to (HandDone peer number) s b n k = held_or (has_number_key b n (peer_number peer number)) Finishes tt
+held_to c s b n k = tt
 
-held_from : (c : Change (List ℕ)) (a : HostId) → IsInHost c → IsHeldMove (from_move c a)
-held_from (Promised peer number queue c script) a k = held_or (same_host a peer) (Pledges number (sent_load queue c script)) tt
-held_from (Accepted peer number) a k = absurd k
-held_from (Dropped peer number) a k = held_or (same_host a peer) Drops tt
-held_from c a k = tt
+held_promised : (peer : HostId) (number low : ℕ) (load : Load) (a : HostId) (n : ℕ) → IsHeldMove (promised_move peer number low load a n)
+held_promised peer number low load a n = by (has_number_key a n (peer_number peer number)) (same_host a peer && nat_lt n low)
+  where
+    by : (c d : Bool) → IsHeldMove (if c then Pledges load else (if d then Drops else Stays))
+    by true d = tt
+    by false true = tt
+    by false false = tt
+
+held_from : (c : Change (List ℕ)) (a : HostId) (n : ℕ) → IsInHost c → IsHeldMove (from_move c a n)
+held_from (OldPromised peer number queue c script) a n k = held_promised peer number number (sent_load queue c script) a n
+held_from (Promised peer number low queue c script) a n k = held_promised peer number low (sent_load queue c script) a n
+held_from (Accepted peer number) a n k = absurd k
+held_from (Dropped peer number) a n k = held_or (has_number_key a n (peer_number peer number)) Drops tt
+held_from c a n k = tt
 
 module _ (states : List Plain) (packets : List Message) (paired : IsPaired states packets) (h : HostId) (s : Plain) (there : At states h s) (me : s.me ≡ h)
     (o : IsInOrder s) (calm : IsConsistent s) (table : Table) (told : IsTabled states table) where
@@ -256,20 +265,13 @@ module _ (states : List Plain) (packets : List Message) (paired : IsPaired state
           (let n : x.seq ≡ s.seq + 1 = ap (λ (i : Request). i.seq) k in omega (arith, n))))
 
   -- a change in a host
-  pub host_tabled : (c : Change (List ℕ)) → fits c s ≡ true → IsOne c → IsInHost c → IsInOrder (applied c s) → (applied c s).me ≡ s.me → GuardsOf states h s c
+  pub host_tabled : (c : Change (List ℕ)) → fits c s ≡ true → IsLowRight c → IsOne c → IsInHost c → IsInOrder (applied c s) → (applied c s).me ≡ s.me → GuardsOf states h s c
       → IsTabled (put_state h (applied c s) states) (row_table h (applied c s) table)
-  host_tabled c fit one inside o' me' guards =
-      let lone = paired.lone h s there in
-      let turn : Turn s (applied c s) (to_move c s) (from_move c) = record {
-        sources = sources s o calm lone c fit one;
-        targets = targets s o c fit one;
-        lone =
-            lone_kept s lone c fit one;
-        side = one_side c s;
-      } in
+  host_tabled c fit right one inside o' me' guards =
+      let turn : Turn s (applied c s) (to_move c s) (from_move c) = turn_of c s o calm fit right one (paired.wide h s there) (one_side c s) in
       let new : (x : Request) → find_row x s ≡ None → (find_row x (applied c s) ≡ None) ⊎ (x ≡ next_id s) = λ x none. new_row x none in
       rows_tabled states packets paired h s (applied c s) there (to_move c s) (from_move c) turn guards table told (seq_grows c s fit)
-      (λ b. held_to c s b inside) (λ a. held_from c a inside) (row_grows (applied c s) new) (fresh_row (applied c s) o' me' new)
+      (λ b n. held_to c s b n inside) (λ a n. held_from c a n inside) (row_grows (applied c s) new) (fresh_row (applied c s) o' me' new)
     where
       new_row : (x : Request) → find_row x s ≡ None → (find_row x (applied c s) ≡ None) ⊎ (x ≡ next_id s)
       new_row x none = by (grows c s x)
@@ -297,24 +299,17 @@ silent_tabled until (n ∷ ks) states packets h s there me o calm fit k table to
         → IsTabled (put_state h (hands_silent until ks (hand_silent until n x s)) states) (row_table h (hands_silent until ks (hand_silent until n x s)) table)
     of None e opens rest again = again states packets h s there me o calm rest k table told
     of (Some y) e opens rest again =
-        let lone = k.lone h s there in
         let u : Plain = hand_silent until n (Some y) s in
         let z : Plain = hands_silent until ks u in
-        let to : HostId → Move = λ b. if same_host b n.peer then Withdraws else Stays in
-        let from : HostId → Move = λ a. Stays in
-        let turn : Turn s u to from = record {
-          sources = silent_source s o calm lone until n y e opens;
-          targets = silent_target s until n y;
-          lone =
-              fewer s lone (is_hand n);
-          side = inl (λ a. refl);
-        } in
+        let to : HostId → ℕ → Move = λ b i. if has_number_key b i n then Withdraws else Stays in
+        let from : HostId → ℕ → Move = λ a i. Stays in
+        let turn : Turn s u to from = silent_turn until s o calm (k.wide h s there) n y e opens in
         let guards = silent_guards until states packets h s there o k n y e opens in
         let new : (x : Request) → find_row x s ≡ None → (find_row x u ≡ None)
         ⊎ (x ≡ next_id s) = λ x none. inl (silent_found x until n (Some y) s (keys_are s o.keys).rows ∙ gone x none) in
         let o' = silent_one s o n y e opens until in
         let first = rows_tabled states packets k h s u there to from turn guards table told (omega arith)
-        (λ b. held_or (same_host b n.peer) Withdraws tt) (λ a. tt)
+        (λ b i. held_or (has_number_key b i n) Withdraws tt) (λ a i. tt)
         (row_grows states packets k h s there me o calm table told u new) (fresh_row states packets k h s there me o calm table told u o' refl new) in
         let rest_told = again (put_state h u states) packets h u (get-here h.0 u s states there) me o' (silent_calm_one s o calm n y e opens until)
         (list_all-weaker (λ l. not_committed (find_hand l.peer l.number s)) (λ l. not_committed (find (is_hand l) (without_first (is_hand n) s.hands)))

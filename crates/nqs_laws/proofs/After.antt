@@ -29,7 +29,7 @@ use Rattle.nqs_types.specs.declared.edit.Edit.{Edit}
 use Rattle.nqs_types.specs.declared.edit.Edit.TheVariants.{Conf, Limits as LimitsOf, Access as AccessOf, Devices as DevicesOf, Rows as RowsOf}
 use Rattle.nqs_types.specs.declared.change.Change.{Change}
 use Rattle.nqs_types.specs.declared.change.Change.TheVariants.{Site, Submitted, Deleted, Doomed, Started, Ended, Unlaunched, Boot, Edited, HandOpened}
-use Rattle.nqs_types.specs.declared.change.Change.TheVariants.{HandCommitted, HandRefused, HandsSilent, HandDone, Promised, Accepted, Dropped, MovedLocal}
+use Rattle.nqs_types.specs.declared.change.Change.TheVariants.{HandCommitted, HandRefused, HandsSilent, HandDone, OldPromised, Promised, Accepted, Dropped, MovedLocal}
 use Rattle.nqs_types.specs.declared.change.Change.TheVariants.{RefusedLocal, HeldFar, StageGot, StageGone, FileGone}
 use Rattle.nqs_state.proofs.LeastLemmas.{found_id}
 use Rattle.nqs_rules.specs.Tests.{is_running}
@@ -319,7 +319,8 @@ module _ (x : Request) where
       of (HandRefused peer number refusal) fit = refused_found (peer_number peer number) refusal (find_hand peer number s) s d
       of (HandsSilent until ks) fit = silents_found until ks s d
       of (HandDone peer number) fit = refl
-      of (Promised peer number queue k script) fit = refl
+      of (OldPromised peer number queue k script) fit = refl
+      of (Promised peer number low queue k script) fit = refl
       of (Accepted peer number) fit = accepted_found (peer_number peer number) (find_promise peer number s) s
       of (Dropped peer number) fit = refl
       of (MovedLocal id queue) fit = changed_found id (moved_local queue (s.arrivals + 1)) (λ r. refl) x s.rows d

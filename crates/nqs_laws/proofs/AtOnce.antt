@@ -86,7 +86,7 @@ waiting_seen r = by r.state r.hold
 module _ (site : List (List ℕ)) (m : Moment) (sound : IsSound site m) (net : IsNet m) (h : HostId) (s : Plain) (there : At m.states h s) where
   row_or_arriving : (x : Request) (e : Entry) → entry_of x m.states ≡ Some e → e.host ≡ h
       → ((r : PlainRow) × (find_row x s ≡ Some r) × (e ≡ row_entry h r)) ⊎ (e.state ≡ Arriving)
-  row_or_arriving x e lies here = of (net.table x) refl (sym (entry_is m.states net.table net.told (λ b u at. (sound.hosts b.0 u at).order) net.paired.lone x)
+  row_or_arriving x e lies here = of (net.table x) refl (sym (entry_is m.states net.table net.told (λ b u at. (sound.hosts b.0 u at).order) x)
       ∙ lies)
     where
       of : (t : Place) → net.table x ≡ t → entry_at (net.table x) ≡ Some e
@@ -98,7 +98,7 @@ module _ (site : List (List ℕ)) (m : Moment) (sound : IsSound site m) (net : I
           let found : find_row x s ≡ Some r = net.told.rows h s there x ∙
           (ap (row_in h) f ∙ ((λ j. row_in h (Sits (host j) r)) ∙ ap (λ (b : Bool). if b then Some r else None) (host_same h))) in
           inl (r, found, sym is ∙ (λ j. row_entry (host j) r))
-      of (Arrives a b r) f k = inr (sym (ap (λ (y : Entry). y.state) (same_Some _ e (sym (ap entry_at f) ∙ k))))
+      of (Arrives a b n r) f k = inr (sym (ap (λ (y : Entry). y.state) (same_Some _ e (sym (ap entry_at f) ∙ k))))
 
   -- what no row passes, and nothing that arrives
   none_at : (t : Entry → Bool) (u : PlainRow → Bool) → ((r : PlainRow) → u r ≡ true → t (row_entry h r) ≡ false)

@@ -161,7 +161,7 @@ module _ (a : HostId) where
 
 module _ (a : HostId) where
   answers_away : (b : Body) (peer : HostId) (s : Plain) (c : Change (List ℕ)) → Answers b peer s c → OpensAway a c
-  answers_away (body.Offer n queue k script) peer s c f = subst (OpensAway a) (sym f.0) tt
+  answers_away (body.Offer n low queue k script) peer s c f = subst (OpensAway a) (sym f.0) tt
   answers_away (body.Ready n) peer s c f = subst (OpensAway a) (sym f.0) tt
   answers_away (body.Refused n refusal) peer s c f = subst (OpensAway a) (sym f.0) tt
   answers_away (body.Commit n) peer s c f = subst (OpensAway a) (sym f.0) tt

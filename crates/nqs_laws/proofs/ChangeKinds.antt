@@ -64,7 +64,7 @@ module _ (s : Plain) (c : Change (List ℕ)) where
   stage_kind peer n path bytes kept is (inr e) = inr (is ∙ ap (StageGot peer n path) e)
 
   message_kind : (b : Body) (peer : HostId) → Answers b peer s c → IsByMessage b peer c
-  message_kind (body.Offer n queue load script) peer k = k.0
+  message_kind (body.Offer n low queue load script) peer k = k.0
   message_kind (body.Ready n) peer k = k.0
   message_kind (body.Refused n refusal) peer k = k.0
   message_kind (body.Commit n) peer k = k.0

@@ -27,12 +27,12 @@ use Rattle.nqs_laws.specs.Handovers.{is_closed_for, is_taken_for}
 use Rattle.nqs_laws.proofs.Frame.{Moment, moment, put_state, put-same, Way, change_by}
 use Rattle.nqs_laws.proofs.Sound.{IsSound, Keeps, Suits, goes_on, run_sound}
 use Rattle.nqs_laws.proofs.Pair.{IsTaken, PledgeOk, Holds, ReadyFor, DoneOf}
-use Rattle.nqs_laws.proofs.Views.{next_of, closed_of, pair_of}
-use Rattle.nqs_laws.proofs.Paired.{At, IsTrueWord, IsPaired, pledge_at}
+use Rattle.nqs_laws.proofs.Views.{gave, pair_of}
+use Rattle.nqs_laws.proofs.Paired.{At, IsTrueWord, IsLowWord, IsPaired, pledge_at}
 use Rattle.nqs_laws.proofs.Targets.{sender_known, promise_at}
 use Rattle.nqs_laws.proofs.PairedRuns.{change_words, paired_keeps}
 use Rattle.nqs_laws.proofs.TabledRuns.{IsNet, run_net}
-use Rattle.nqs_laws.proofs.HandoverLaws.{closed_up, closed_down, taken_up}
+use Rattle.nqs_laws.proofs.HandoverLaws.{taken_up}
 
 pub record IsClosing (said : Message) (m : Moment) : Type 0 where
   pub paired : IsPaired m.states m.packets
@@ -87,13 +87,14 @@ module _ (site : List (List ℕ)) (few : IsSite site) (acts more : List Act) (sa
   pub end_net : IsNet end
   end_net = run_net site few (acts ++ more) sane
 
-  pub stays_true : (said : Message) → IsTrueWord start.states said → IsTrueWord end.states said
-  stays_true said holds =
+  pub stays_true : (said : Message) → IsTrueWord start.states said → IsLowWord start.states said → IsTrueWord end.states said
+  stays_true said holds least =
       let told : IsPaired start.states (said ∷ []) = record {
-        lone = start_net.paired.lone;
+        wide = start_net.paired.wide;
         pairs = start_net.paired.pairs;
         words =
             λ x sent. of sent.0 x sent.1;
+        lows = λ x sent. low sent.0 x sent.1;
       } in
       let kept = goes_on site (IsClosing said) (closing_keeps site said) start_world start.notes start_sound
       (record { paired = start_net.paired; closed = told }) more parts_sane.1 in
@@ -102,6 +103,10 @@ module _ (site : List (List ℕ)) (few : IsSite site) (acts more : List Act) (sa
       of : (k : ℕ) (x : Message) → slice_get (said ∷ []) k ≡ Some x → IsTrueWord start.states x
       of zero x e = subst (IsTrueWord start.states) (same_Some said x e) holds
       of (suc k) x e = absurd (none-some x e)
+
+      low : (k : ℕ) (x : Message) → slice_get (said ∷ []) k ≡ Some x → IsLowWord start.states x
+      low zero x e = subst (IsLowWord start.states) (same_Some said x e) least
+      low (suc k) x e = absurd (none-some x e)
 
   module _ (a b : HostId) (n : ℕ) (t u : Plain) (tat : At start.states b t) (uat : At end.states b u) where
     -- a host with a promise or a closed number for a sender knows it
@@ -123,14 +128,13 @@ module _ (site : List (List ℕ)) (few : IsSite site) (acts more : List Act) (sa
         let p = known (find_peer a t) closed in
         let s = sender_at p.0 p.1 in
         let said : Message = record { from = b; to = a; body = body.Done n } in
-        closed_up site end end_sound end_net a b s.0 u s.1 uat n (stays_true said (λ v w vat wat. true_now v w vat wat) u s.0 uat s.1).1
+        (stays_true said (λ v w vat wat. true_now v w vat wat) (λ v vat. tt) u s.0 uat s.1).1
       where
-        true_now : (v w : Plain) → At start.states b v → At start.states a w → Holds (pair_of a w b v) (DoneOf n)
+        true_now : (v w : Plain) → At start.states b v → At start.states a w → Holds (pair_of a w b v n) DoneOf
         true_now v w vat wat =
             let same : t ≡ v = same_Some t v (sym tat ∙ vat) in
-            let below = closed_down site start start_sound start_net a b w v wat vat n (ap (is_closed_for a n) (sym same) ∙ closed) in
-            let less = (start_net.paired.pairs a b w v wat vat).below in
-            (omega (arith, below, less), below)
+            let shut : is_closed_for a n v ≡ true = ap (is_closed_for a n) (sym same) ∙ closed in
+            ((start_net.paired.pairs a b w v wat vat n).closed shut, shut)
 
     pub stays_taken : is_taken_for a n t ≡ true → is_taken_for a n u ≡ true
     stays_taken taken = by (has_promise a n t) refl taken
@@ -144,15 +148,16 @@ module _ (site : List (List ℕ)) (few : IsSite site) (acts more : List Act) (sa
             let p = sender_known t order (peer_number a n) q.0 q.1 in
             let s = sender_at p.0 p.1 in
             let said : Message = record { from = b; to = a; body = body.Ready n } in
-            taken_up site end end_sound end_net a b s.0 u s.1 uat n (stays_true said (λ v w vat wat. true_now v w vat wat) u s.0 uat s.1).1
+            taken_up site end end_sound end_net a b s.0 u s.1 uat n
+            (stays_true said (λ v w vat wat. true_now v w vat wat) (λ v vat. tt) u s.0 uat s.1).1
           where
-            true_now : (v w : Plain) → At start.states b v → At start.states a w → Holds (pair_of a w b v) (ReadyFor n)
+            true_now : (v w : Plain) → At start.states b v → At start.states a w → Holds (pair_of a w b v n) ReadyFor
             true_now v w vat wat =
                 let same : t ≡ v = same_Some t v (sym tat ∙ vat) in
-                let q = pledge_at v ((start_sound.hosts b.0 v vat).order) a n (ap (has_promise a n) (sym same) ∙ k) in
-                let ok = start_net.paired.pairs a b w v wat vat in
-                let less = subst (λ y. PledgeOk y (next_of b w) (closed_of a v)) q.1 ok.pledge in
-                (less.1, subst (λ y. IsTaken y (closed_of a v) n) (sym q.1) (λ above. refl))
+                let q = pledge_at v a n (ap (has_promise a n) (sym same) ∙ k) in
+                let ok = start_net.paired.pairs a b w v wat vat n in
+                let less = subst (λ y. PledgeOk y (gave w b n) (is_closed_for a n v)) q.1 ok.pledge in
+                (less.0, subst (λ y. IsTaken y (is_closed_for a n v)) (sym q.1) tt)
 
         by : (c : Bool) → has_promise a n t ≡ c → (c || is_closed_for a n t) ≡ true → is_taken_for a n u ≡ true
         by true e k = promised e

@@ -1,34 +1,34 @@
 -- The entries of the network table are those of the table that the hosts tell.
-use Rattle.std.proofs.Common.{◌≡◌, ℕ, ◌+◌, ◌<◌, ◌⊎◌, inl, inr, Bool, true, false, cond, not, ◌||◌, ◌==◌, List, [], ◌∷◌, ◌++◌, map, filter, find, slice_get}
+use Rattle.std.proofs.Common.{◌≡◌, ℕ, ◌+◌, ◌<◌, ◌⊎◌, inl, inr, Bool, true, false, cond, not, ◌||◌, List, [], ◌∷◌, ◌++◌, map, filter, find, slice_get}
 use Rattle.std.proofs.Common.{Option, None, Some, true≢false, zero, suc, refl, sym, ap, subst, ◌∙◌, arith, if◌then◌else◌}
-use Rattle.std.proofs.lemmas.Bool.{and_parts, and_from, or_parts, or_left, or_right, eqb-true, eq-eqb, not_from_false, not-true, false_from_ne_true}
+use Rattle.std.proofs.lemmas.Bool.{and_parts, and_from, or_parts, or_left, or_right, not_from_false, not-true, false_from_ne_true}
 use Rattle.std.proofs.lemmas.Option.{same_Some, none-some}
 use Rattle.std.proofs.lemmas.List.{map-append}
 use Rattle.std.proofs.lemmas.List.Folds.{list_any-append}
 use Rattle.std.specs.List.{list_any, AllByRecursion}
-use Rattle.nqs_types.specs.Ids.{id_eq, id_exact}
+use Rattle.nqs_types.specs.Ids.{id_eq, id_exact, peer_number_eq, peer_number_exact, promise_key}
 use Rattle.nqs_base.proofs.Plain.{all_weaker, find_in_filter}
 use Rattle.nqs_state.specs.State.{Plain}
-use Rattle.nqs_state.specs.Keys.{is_row}
+use Rattle.nqs_state.specs.Keys.{is_row, is_promise}
 use Rattle.nqs_types.specs.declared.ids.HostId.{HostId}
 use Rattle.nqs_types.specs.declared.request.Hand.{Hand}
 use Rattle.nqs_types.specs.declared.request.Phase.{Phase}
 use Rattle.nqs_types.specs.declared.request.Phase.TheVariants.{Offered, Committed}
 use Rattle.nqs_types.specs.declared.table_row.NetState.TheVariants.{Arriving}
-use Rattle.nqs_rules.specs.Tests.{passes, is_committed, same_host}
-use Rattle.nqs_rules.specs.Find.{find_row, find_hand, host_at}
+use Rattle.nqs_rules.specs.Tests.{passes, is_committed}
+use Rattle.nqs_rules.specs.Find.{peer_number, find_row, find_hand, find_promise, host_at}
 use Rattle.nqs_rules.specs.Fits.{is_committed_hand}
 use Rattle.nqs_rules.specs.InOrder.{IsInOrder, are_distinct}
 use Rattle.nqs_rules.specs.Net.{Entry, entry_in, row_entry, promise_entry, is_committed_to, is_arriving, arriving, entries_at, entries_from, entries, is_table}
 use Rattle.nqs_rules.specs.Net.{entry_of}
 use Rattle.nqs_rules.proofs.ListFacts.{found_passes, found_again}
-use Rattle.nqs_rules.proofs.RowFacts.{same_id}
+use Rattle.nqs_rules.proofs.RowFacts.{same_id, same_peer_number}
 use Rattle.nqs_rules.proofs.StateFacts.{keys_are}
 use Rattle.nqs_rules.proofs.Sublists.{part_distinct, map_part, filter_part}
 use Rattle.nqs_rules.specs.Picked.{PlainRow}
 use Rattle.nqs_laws.proofs.After.{Request}
 use Rattle.nqs_laws.proofs.Pair.{Offer, NoOffer, Open, Given}
-use Rattle.nqs_laws.proofs.Views.{Pledging, offered, promise_of, IsLone, host_exact, host_same}
+use Rattle.nqs_laws.proofs.Views.{Pledging, offered, promise_key_is}
 use Rattle.nqs_laws.proofs.Paired.{At, given_offer, committed_hand}
 use Rattle.nqs_laws.proofs.Spoken.{all-both}
 use Rattle.nqs_laws.proofs.Tabled.{Place, Nowhere, Sits, Arrives, Table, IsTabled, IsPlaced, row_in, claim_in, claim, sits_here, arrives_here, row_of_sits}
@@ -38,12 +38,12 @@ use Rattle.nqs_laws.proofs.Tabled.{claim_of_arrives}
 abbrev pub entry_at : Place → Option Entry
 entry_at Nowhere = None
 entry_at (Sits h r) = Some (row_entry h r)
-entry_at (Arrives a b r) = Some (entry_in b Arriving r)
+entry_at (Arrives a b n r) = Some (entry_in b Arriving r)
 
 abbrev pub host_of_place : Place → ℕ
 host_of_place Nowhere = 0
 host_of_place (Sits h r) = h.0
-host_of_place (Arrives a b r) = b.0
+host_of_place (Arrives a b n r) = b.0
 
 -- a list in which each value, with its place, has a property
 every : {V : Type 0} (P : V → Type 0) (vs : List V) → ((i : ℕ) (v : V) → slice_get vs i ≡ Some v → P v) → AllByRecursion P vs
@@ -64,8 +64,7 @@ every_kept P keep (v ∷ vs) f = by (keep v) refl (every_kept P keep vs (λ i w 
     by false e rest = rest
 
 -- keys of two lists
-module _ (states : List Plain) (table : Table) (told : IsTabled states table) (orders : (a : HostId) (s : Plain) → At states a s → IsInOrder s)
-    (lones : (a : HostId) (s : Plain) → At states a s → IsLone s.hands) where
+module _ (states : List Plain) (table : Table) (told : IsTabled states table) (orders : (a : HostId) (s : Plain) → At states a s → IsInOrder s) where
   -- an entry is that of its request's place
   abbrev pub IsEntry : Entry → Type 0
   IsEntry e = entry_at (table e.id) ≡ Some e
@@ -77,28 +76,26 @@ module _ (states : List Plain) (table : Table) (told : IsTabled states table) (o
         sits_here h (table r.id) r (sym (told.rows h s at r.id) ∙ found)
 
     -- a promise that its sender has committed
-    promise_arrives : (i : ℕ) (p : Pledging) → slice_get s.promises i ≡ Some p → is_arriving states h p ≡ true → table p.row.id ≡ Arrives p.peer h p.row
+    promise_arrives : (i : ℕ) (p : Pledging) → slice_get s.promises i ≡ Some p → is_arriving states h p ≡ true → table p.row.id ≡ Arrives p.peer h p.number p.row
     promise_arrives i p there comes = of (slice_get states p.peer.0) refl comes
       where
-        promised : promise_of p.peer s ≡ Some p
-        promised = found_again same_host (λ (q : Pledging). q.peer) host_exact host_same s.promises i p (orders h s at).promisers there
+        promised : find_promise p.peer p.number s ≡ Some p
+        promised = found_again peer_number_eq promise_key peer_number_exact same_peer_number s.promises i p (keys_are s (orders h s at).keys).promises there
 
         by : (u : Plain) → At states p.peer u → (x : Option Hand) → find_hand h p.number u ≡ x → passes is_committed_hand x ≡ true
-            → table p.row.id ≡ Arrives p.peer h p.row
+            → table p.row.id ≡ Arrives p.peer h p.number p.row
         by u uat None e k = absurd (true≢false (sym k))
         by u uat (Some y) e k =
-            let given = given_offer u (lones p.peer u uat) h p.number (record { hand = y; found = e; is = phase y.phase refl k }) in
-            arrives_here p.peer h (table p.row.id) p.row
-            (sym (told.claims p.peer h u s uat at p.row.id)
-            ∙ ((λ j. claim (given j) (promised j) p.row.id)
-            ∙ (ap (λ z. if z then (if id_eq p.row.id p.row.id then Some p.row else None) else None) (eq-eqb p.number p.number refl)
-            ∙ ap (λ z. if z then Some p.row else None) (same_id p.row.id))))
+            let given = given_offer u h p.number (record { hand = y; found = e; is = phase y.phase refl k }) in
+            arrives_here p.peer h p.number (table p.row.id) p.row
+            (sym (told.claims p.peer h u s uat at p.number p.row.id)
+            ∙ ((λ j. claim (given j) (promised j) p.row.id) ∙ ap (λ z. if z then Some p.row else None) (same_id p.row.id)))
           where
             phase : (q : Phase) → y.phase ≡ q → is_committed q ≡ true → y.phase ≡ Committed
             phase Committed f g = f
             phase Offered f g = absurd (true≢false (sym g))
 
-        of : (x : Option Plain) → slice_get states p.peer.0 ≡ x → passes (is_committed_to h p.number) x ≡ true → table p.row.id ≡ Arrives p.peer h p.row
+        of : (x : Option Plain) → slice_get states p.peer.0 ≡ x → passes (is_committed_to h p.number) x ≡ true → table p.row.id ≡ Arrives p.peer h p.number p.row
         of None e k = absurd (true≢false (sym k))
         of (Some u) e k = by u e (find_hand h p.number u) refl k
 
@@ -111,7 +108,7 @@ module _ (states : List Plain) (table : Table) (told : IsTabled states table) (o
         (λ i r there. (ap entry_at (row_sits i r there), ap host_of_place (row_sits i r there))))
 
     abbrev ComesHere : Pledging → Type 0
-    ComesHere p = table p.row.id ≡ Arrives p.peer h p.row
+    ComesHere p = table p.row.id ≡ Arrives p.peer h p.number p.row
 
     arriving_here : AllByRecursion ComesHere (arriving states h s)
     arriving_here = every_kept ComesHere (is_arriving states h) s.promises promise_arrives
@@ -135,24 +132,25 @@ module _ (states : List Plain) (table : Table) (told : IsTabled states table) (o
     row_ids [] = refl
     row_ids (r ∷ rows) = ap (λ l. r.id ∷ l) (row_ids rows)
 
-    arriving_distinct : (ps : List Pledging) → AllByRecursion ComesHere ps → are_distinct same_host (map (λ (p : Pledging). p.peer) ps) ≡ true
+    arriving_distinct : (ps : List Pledging) → AllByRecursion ComesHere ps → are_distinct peer_number_eq (map promise_key ps) ≡ true
         → are_distinct id_eq (ids_of (map (promise_entry h) ps)) ≡ true
     arriving_distinct [] all d = refl
     arriving_distinct (p ∷ ps) all d =
-        let k = and_parts (not (list_any (same_host p.peer) (map (λ (q : Pledging). q.peer) ps)))
-        (are_distinct same_host (map (λ (q : Pledging). q.peer) ps)) d in
+        let k = and_parts (not (list_any (peer_number_eq (promise_key p)) (map promise_key ps))) (are_distinct peer_number_eq (map promise_key ps)) d in
         and_from (not (list_any (id_eq p.row.id) (ids_of (map (promise_entry h) ps)))) (are_distinct id_eq (ids_of (map (promise_entry h) ps)))
-        (not_from_false _ (none ps all.1 (not-true (list_any (same_host p.peer) (map (λ (q : Pledging). q.peer) ps)) k.0))) (arriving_distinct ps all.1 k.1)
+        (not_from_false _ (none ps all.1 (not-true (list_any (peer_number_eq (promise_key p)) (map promise_key ps)) k.0))) (arriving_distinct ps all.1 k.1)
       where
-        none : (qs : List Pledging) → AllByRecursion ComesHere qs → list_any (same_host p.peer) (map (λ (q : Pledging). q.peer) qs) ≡ false
+        none : (qs : List Pledging) → AllByRecursion ComesHere qs → list_any (peer_number_eq (promise_key p)) (map promise_key qs) ≡ false
             → list_any (id_eq p.row.id) (ids_of (map (promise_entry h) qs)) ≡ false
         none [] comes far = refl
         none (q ∷ qs) comes far =
-            let f = or_parts (same_host p.peer q.peer) (list_any (same_host p.peer) (map (λ (z : Pledging). z.peer) qs)) far in
+            let f = or_parts (peer_number_eq (promise_key p) (promise_key q)) (list_any (peer_number_eq (promise_key p)) (map promise_key qs)) far in
             let other : id_eq p.row.id q.row.id ≡ false = false_from_ne_true (id_eq p.row.id q.row.id) (λ same.
-            let places : Arrives p.peer h p.row ≡ Arrives q.peer h q.row = sym all.0 ∙ (ap table (id_exact p.row.id q.row.id same) ∙ comes.0) in
+            let places : Arrives p.peer h p.number p.row ≡ Arrives q.peer h q.number q.row = sym all.0 ∙ (ap table (id_exact p.row.id q.row.id same) ∙ comes.0) in
             let peers : p.peer ≡ q.peer = cc in
-            true≢false (sym (ap (same_host p.peer) (sym peers) ∙ host_same p.peer) ∙ f.0)) in
+            let numbers : p.number ≡ q.number = cc in
+            let keys : promise_key p ≡ promise_key q = (λ j. record { peer = peers j; number = numbers j }) in
+            true≢false (sym (ap (peer_number_eq (promise_key p)) (sym keys) ∙ same_peer_number (promise_key p)) ∙ f.0)) in
             (λ j. other j || none qs comes.1 f.1 j)
 
     apart : (r : PlainRow) (i : ℕ) → slice_get s.rows i ≡ Some r → (ps : List Pledging) → AllByRecursion ComesHere ps
@@ -160,7 +158,7 @@ module _ (states : List Plain) (table : Table) (told : IsTabled states table) (o
     apart r i there [] all = refl
     apart r i there (p ∷ ps) all =
         let other : id_eq r.id p.row.id ≡ false = false_from_ne_true (id_eq r.id p.row.id) (λ same.
-        let places : Sits h r ≡ Arrives p.peer h p.row = sym (row_sits i r there) ∙ (ap table (id_exact r.id p.row.id same) ∙ all.0) in
+        let places : Sits h r ≡ Arrives p.peer h p.number p.row = sym (row_sits i r there) ∙ (ap table (id_exact r.id p.row.id same) ∙ all.0) in
         let no : ⊥ = cc in no) in
         (λ j. other j || apart r i there ps all.1 j)
 
@@ -180,15 +178,15 @@ module _ (states : List Plain) (table : Table) (told : IsTabled states table) (o
       ap (are_distinct id_eq) (map-append (λ (e : Entry). e.id) rows promises)
       ∙ distinct_both (map (λ (e : Entry). e.id) rows) (map (λ (e : Entry). e.id) promises)
       (ap (are_distinct id_eq) (row_ids h s at s.rows) ∙ (keys_are s (orders h s at).keys).rows)
-      (arriving_distinct h s at (arriving states h s) (arriving_here h s at) (fewer_peers s.promises (orders h s at).promisers))
+      (arriving_distinct h s at (arriving states h s) (arriving_here h s at) (fewer_keys s.promises (keys_are s (orders h s at).keys).promises))
       (every_map (λ x. list_any (id_eq x) (map (λ (e : Entry). e.id) promises) ≡ false) (λ (e : Entry). e.id) rows
       (every_map (λ (e : Entry). list_any (id_eq e.id) (map (λ (e : Entry). e.id) promises) ≡ false) (row_entry h) s.rows
       (every (λ r. list_any (id_eq r.id) (map (λ (e : Entry). e.id) promises) ≡ false) s.rows
       (λ i r there. apart h s at r i there (arriving states h s) (arriving_here h s at)))))
     where
-      fewer_peers : (ps : List Pledging) → are_distinct same_host (map (λ (p : Pledging). p.peer) ps) ≡ true
-          → are_distinct same_host (map (λ (p : Pledging). p.peer) (filter (is_arriving states h) ps)) ≡ true
-      fewer_peers ps d = part_distinct same_host (map_part (λ (p : Pledging). p.peer) (filter_part (is_arriving states h) ps)) d
+      fewer_keys : (ps : List Pledging) → are_distinct peer_number_eq (map promise_key ps) ≡ true
+          → are_distinct peer_number_eq (map promise_key (filter (is_arriving states h) ps)) ≡ true
+      fewer_keys ps d = part_distinct peer_number_eq (map_part promise_key (filter_part (is_arriving states h) ps)) d
 
   -- requests of other hosts
   far_off : (x : Request) (n : ℕ) → host_of_place (table x) ≡ n → (es : List Entry) → AllByRecursion (λ (e : Entry). n < host_of_place (table e.id)) es
@@ -301,39 +299,35 @@ module _ (states : List Plain) (table : Table) (told : IsTabled states table) (o
           ((λ j. list_any (λ (e : Entry). id_eq x e.id) (entries_at states (host_at (z j)) s))
           ∙ any_both (λ (e : Entry). id_eq x e.id) (map (row_entry h) s.rows) (map (promise_entry h) (arriving states h s))
           (inl (any_mapped (λ (e : Entry). id_eq x e.id) (row_entry h) (is_row x) s.rows r found (found_passes (is_row x) s.rows r found))))
-  listed_there x (Arrives a b r) e some = at_hosts placed_here
+  listed_there x (Arrives a b n r) e some = at_hosts placed_here
     where
       placed_here : (s : Plain) × (t : Plain) × At states a s × At states b t
       placed_here = subst (IsPlaced states) e (told.placed x)
 
       at_hosts : (s : Plain) × (t : Plain) × At states a s × At states b t → list_any (λ (e : Entry). id_eq x e.id) (entries states) ≡ true
-      at_hosts (s, t, sat, tat) = by (offered s b) refl (promise_of a t) refl (told.claims a b s t sat tat x ∙ (ap (claim_in a b) e ∙ claim_of_arrives a b r))
+      at_hosts (s, t, sat, tat) = by (offered s b n) refl (find_promise a n t) refl
+          (told.claims a b s t sat tat n x ∙ (ap (claim_in a b n) e ∙ claim_of_arrives a b n r))
         where
-          by : (o : Offer) → offered s b ≡ o → (q : Option Pledging) → promise_of a t ≡ q → claim o q x ≡ Some r
+          by : (o : Offer) → offered s b n ≡ o → (q : Option Pledging) → find_promise a n t ≡ q → claim o q x ≡ Some r
               → list_any (λ (e : Entry). id_eq x e.id) (entries states) ≡ true
           by NoOffer f q g k = absurd (none-some r k)
-          by (Open n load) f q g k = absurd (none-some r k)
-          by (Given n id queue) f None g k = absurd (none-some r k)
-          by (Given n id queue) f (Some p) g k = numbered (p.number == n) refl k
+          by (Open load) f q g k = absurd (none-some r k)
+          by (Given id queue) f None g k = absurd (none-some r k)
+          by (Given id queue) f (Some p) g k = named (id_eq x p.row.id) refl k
             where
-              named : p.number ≡ n → (c : Bool) → id_eq x p.row.id ≡ c → (if c then Some p.row else None) ≡ Some r
+              named : (c : Bool) → id_eq x p.row.id ≡ c → (if c then Some p.row else None) ≡ Some r
                   → list_any (λ (e : Entry). id_eq x e.id) (entries states) ≡ true
-              named number true is k =
-                  let peer : a ≡ p.peer = host_exact a p.peer (found_passes (λ (q : Pledging). same_host a q.peer) t.promises p g) in
-                  let comes : is_arriving states b p ≡ true = (λ j. passes (is_committed_to b (number j)) (slice_get states (sym peer j).0))
-                  ∙ (ap (passes (is_committed_to b n)) sat ∙ committed_hand s (orders a s sat) b n id queue f) in
+              named true is k =
+                  let key : peer_number a n ≡ promise_key p = promise_key_is t (peer_number a n) p g in
+                  let comes : is_arriving states b p ≡ true = (λ j. passes (is_committed_to b (sym key j).number) (slice_get states (sym key j).peer.0))
+                  ∙ (ap (passes (is_committed_to b n)) sat ∙ committed_hand s b n id queue f) in
                   let z : 0 + b.0 ≡ b.0 = omega arith in
                   somewhere (λ (e : Entry). id_eq x e.id) 0 states b.0 t tat
                   ((λ j. list_any (λ (e : Entry). id_eq x e.id) (entries_at states (host_at (z j)) t))
                   ∙ any_both (λ (e : Entry). id_eq x e.id) (map (row_entry b) t.rows) (map (promise_entry b) (arriving states b t))
-                  (inr (any_mapped (λ (e : Entry). id_eq x e.id) (promise_entry b) (λ (q : Pledging). same_host a q.peer) (arriving states b t) p
-                  (find_in_filter (λ (q : Pledging). same_host a q.peer) (is_arriving states b) t.promises p g comes) is)))
-              named number false is k = absurd (none-some r k)
-
-              numbered : (c : Bool) → (p.number == n) ≡ c → (if c then (if id_eq x p.row.id then Some p.row else None) else None) ≡ Some r
-                  → list_any (λ (e : Entry). id_eq x e.id) (entries states) ≡ true
-              numbered true is k = named (eqb-true p.number n is) (id_eq x p.row.id) refl k
-              numbered false is k = absurd (none-some r k)
+                  (inr (any_mapped (λ (e : Entry). id_eq x e.id) (promise_entry b) (is_promise (peer_number a n)) (arriving states b t) p
+                  (find_in_filter (is_promise (peer_number a n)) (is_arriving states b) t.promises p g comes) is)))
+              named false is k = absurd (none-some r k)
 
   -- where a request lies is where the table has it
   pub entry_is : (x : Request) → entry_of x states ≡ entry_at (table x)
@@ -343,7 +337,7 @@ module _ (states : List Plain) (table : Table) (told : IsTabled states table) (o
       nowhere none Nowhere e = refl
       nowhere none (Sits h r) e = absurd (let k = in_list x (entries states) (listed_there x (Sits h r) e (λ f. let no : ⊥ = cc in no)) in
           none-some k.0 (sym none ∙ k.1))
-      nowhere none (Arrives a b r) e = absurd (let k = in_list x (entries states) (listed_there x (Arrives a b r) e (λ f. let no : ⊥ = cc in no)) in
+      nowhere none (Arrives a b n r) e = absurd (let k = in_list x (entries states) (listed_there x (Arrives a b n r) e (λ f. let no : ⊥ = cc in no)) in
           none-some k.0 (sym none ∙ k.1))
 
       of : (y : Option Entry) → entry_of x states ≡ y → y ≡ entry_at (table x)

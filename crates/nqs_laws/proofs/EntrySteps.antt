@@ -107,7 +107,7 @@ module _ (h : HostId) (s : Plain) (me : s.me ≡ h) (o : IsInOrder s) (calm : Is
               subst (λ i. TurnStep c s x (Some (row_entry i r)) (entry_at (placed_at h (after c s x (find_row x s))))) (sym same)
               (found r (row ∙ ((λ j. row_in h (Sits (same j) r)) ∙ ap (λ b. if b then Some r else None) (host_same h))))
           at false e = inl refl
-      by (Arrives a b r) row = inl refl
+      by (Arrives a b n r) row = inl refl
 
   -- a handover that is committed
   route_step : (peer : HostId) (number : ℕ) (x : Request) (y : Hand) (r : PlainRow) (p : Pledging) → find_hand peer number s ≡ Some y → x ≡ y.id
@@ -249,7 +249,7 @@ module _ (s : Plain) (o : IsInOrder s) (x : Request) where
   commit_licence peer n k t = absurd t
 
   message_licence : (b : Body) (peer : HostId) (c : Change (List ℕ)) → Answers b peer s c → (k : Kind) → Turns c s x k → LicensesMessage b peer s x k
-  message_licence (body.Offer n queue q script) peer c f k t = absurd (subst (λ y. Turns y s x k) f.0 t)
+  message_licence (body.Offer n low queue q script) peer c f k t = absurd (subst (λ y. Turns y s x k) f.0 t)
   message_licence (body.Ready n) peer c f k t = ready_licence peer n k (subst (λ y. Turns y s x k) f.0 t)
   message_licence (body.Refused n refusal) peer c f k t = refused_licence peer n refusal k (subst (λ y. Turns y s x k) f.0 t)
   message_licence (body.Commit n) peer c f k t = commit_licence peer n k (subst (λ y. Turns y s x k) f.0 t)
@@ -326,7 +326,7 @@ updated_here h o (Sits g r) = by (same_host g h) refl
     by : (b : Bool) → same_host g h ≡ b → (entry_at (if b then placed_at h o else Sits g r) ≡ Some (row_entry g r)) ⊎ (g ≡ h)
     by true e = inr (host_exact g h e)
     by false e = inl refl
-updated_here h o (Arrives a b r) = inl refl
+updated_here h o (Arrives a b n r) = inl refl
 
 pub lies_here : (c : Change (List ℕ)) (h : HostId) (s : Plain) (x : Request) (t t' : Place) → StepOf c h s x t t'
     → (entry_at t' ≡ entry_at t) ⊎ LiesWith h (entry_at t)

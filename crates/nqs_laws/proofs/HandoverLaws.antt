@@ -1,12 +1,10 @@
 -- Handovers in every world that a run reaches.
-use Rattle.std.proofs.Common.{◌≡◌, ℕ, ◌+◌, ◌<◌, ◌≤◌, Bool, true, false, ◌||◌, ◌==◌, nat_le, nat_lt, List, length, slice_get, Option, None, Some}
+use Rattle.std.proofs.Common.{◌≡◌, ℕ, Bool, true, false, ◌||◌, nat_lt, List, length, slice_get, Option, None, Some}
 use Rattle.std.proofs.Common.{is_some, true≢false, refl, sym, ap, subst, ◌∙◌, arith, if◌then◌else◌}
-use Rattle.std.proofs.lemmas.Bool.{and_parts, or_left, or_right, or_from, eqb-true, eq-eqb, leb-true, leb-false, ltb-true, le-leb, lt-ltb, not-true}
-use Rattle.std.proofs.lemmas.Bool.{false_from_ne_true}
+use Rattle.std.proofs.lemmas.Bool.{and_parts, or_left, or_right, or_from, eqb-true, ltb-true, not-true, false_from_ne_true}
 use Rattle.std.proofs.lemmas.Option.{none-some, same_Some}
 use Rattle.std.specs.Option.{option_map, option_and_then}
 use Rattle.nqs_base.proofs.Plain.{item_at}
-use Rattle.nqs_types.specs.Ids.{id_eq}
 use Rattle.nqs_state.specs.Keys.{is_row, is_hand, is_promise}
 use Rattle.nqs_state.specs.State.{Plain}
 use Rattle.nqs_types.specs.declared.ids.HostId.{HostId}
@@ -23,10 +21,10 @@ use Rattle.nqs_rules.specs.Tests.{passes, is_offered, is_committed, same_host}
 use Rattle.nqs_rules.specs.Find.{peer_number, has_row, find_row, find_hand, find_promise, has_promise, find_peer}
 use Rattle.nqs_rules.specs.Fits.{is_offered_hand, is_committed_hand}
 use Rattle.nqs_rules.specs.InOrder.{IsInOrder}
-use Rattle.nqs_rules.specs.Handover.{closes, was_given, is_not_given_here}
-use Rattle.nqs_rules.specs.World.{World, Act, new_world}
+use Rattle.nqs_rules.specs.Handover.{was_given, is_not_given_here}
+use Rattle.nqs_rules.specs.World.{World, Act, new_world, body_number}
 use Rattle.nqs_rules.specs.Run.{run, states_of}
-use Rattle.nqs_rules.proofs.KeyFacts.{place_below, found_any, any_found}
+use Rattle.nqs_rules.proofs.KeyFacts.{place_below, found_any, any_found, none_found}
 use Rattle.nqs_rules.proofs.RowFacts.{same_id}
 use Rattle.nqs_rules.proofs.ListFacts.{list_all-found}
 use Rattle.nqs_rules.proofs.StateFacts.{sites_are}
@@ -36,16 +34,15 @@ use Rattle.nqs_laws.specs.History.{history}
 use Rattle.nqs_laws.specs.Sane.{AreSane, IsSite}
 use Rattle.nqs_laws.specs.Handovers.{IsStateOf, WasSent as WasSentIn, is_open, is_closed_for, is_taken_for, AreInStep, IsTrueOf}
 use Rattle.nqs_laws.specs.Loads.{Load, offered_load, kept_load, sent_load, load_of, promised_load, errand, handed_errand, promised_errand}
-use Rattle.nqs_laws.specs.Between.{is_next_open, HasGivenNumber}
+use Rattle.nqs_laws.specs.Between.{HasGivenNumber}
 use Rattle.nqs_laws.proofs.Frame.{Moment, moment, WasSent as Sent, packet_sent}
 use Rattle.nqs_laws.proofs.Sound.{IsSound, run_sound}
 use Rattle.nqs_laws.proofs.Makes.{HasHand}
-use Rattle.nqs_laws.proofs.Pair.{Offer, NoOffer, Open, Given, Pledge, NoPledge, Pledged, IsTaken, IsNoPledge, IsNoOffer, IsGiven, IsOf, IsPromisedAs, Agrees}
+use Rattle.nqs_laws.proofs.Pair.{Offer, NoOffer, Open, Given, Pledged, IsTaken, IsNoOffer, IsGiven, IsOf, IsPromisedAs, Agrees}
 use Rattle.nqs_laws.proofs.Pair.{OfferOk, PledgeOk, Ok}
-use Rattle.nqs_laws.proofs.Views.{Pledging, offered, promise_of, pledge_seen, pledged, peer_field, next_field, closed_field, next_of, closed_of, pair_of}
-use Rattle.nqs_laws.proofs.Views.{host_exact, host_same, hand_peer, promise_to_peer, promise_number}
+use Rattle.nqs_laws.proofs.Views.{Pledging, offered, gave, pledge_seen, pledged, pair_of, host_exact, host_same, hand_peer}
 use Rattle.nqs_laws.proofs.Targets.{promise_at}
-use Rattle.nqs_laws.proofs.Paired.{At, HoldsFor, open_row, open_offer, given_offer, committed_hand, pledge_at, no_pledge}
+use Rattle.nqs_laws.proofs.Paired.{At, HoldsFor, LowWord, open_row, open_offer, given_offer, committed_hand, pledge_at}
 use Rattle.nqs_laws.proofs.Tabled.{Nowhere, Sits, Arrives, row_in, claim, sits_here, arrives_here}
 use Rattle.nqs_laws.proofs.TabledRuns.{IsNet}
 use Rattle.nqs_laws.proofs.Away.{IsAway, is_away}
@@ -91,91 +88,49 @@ module _ (site : List (List ℕ)) (m : Moment) (sound : IsSound site m) (net : I
     order_t : IsInOrder t
     order_t = (sound.hosts b.0 t tat).order
 
-    ok : Ok (pair_of a s b t)
-    ok = net.paired.pairs a b s t sat tat
+    ok : (n : ℕ) → Ok (pair_of a s b t n)
+    ok n = net.paired.pairs a b s t sat tat n
 
-    -- closed numbers
-
-    pub closed_up : (n : ℕ) → n ≤ closed_of a t → is_closed_for a n t ≡ true
-    closed_up n below =
-        let p = peer_is a b s t sat tat in
-        ap (closes n) p.1 ∙ le-leb n p.0.closed (let e : closed_of a t ≡ p.0.closed = ap (peer_field closed_field 0) p.1 in omega (arith, below, e))
-
-    pub closed_down : (n : ℕ) → is_closed_for a n t ≡ true → n ≤ closed_of a t
-    closed_down n k = of (find_peer a t) k
-      where
-        of : (o : Option Peer) → closes n o ≡ true → n ≤ peer_field closed_field 0 o
-        of None k = absurd (true≢false (sym k))
-        of (Some p) k = leb-true n p.closed k
-
-    still_open : (n : ℕ) → closed_of a t < n → is_closed_for a n t ≡ false
-    still_open n above = false_from_ne_true (is_closed_for a n t) (λ k. (let below = closed_down n k in omega (arith, above, below)))
-
-    pub given_up : (n : ℕ) → n < next_of b s → was_given n (find_peer b s) ≡ true
-    given_up n below =
-        let p = peer_is b a t s tat sat in
-        ap (λ o. was_given n o) p.1 ∙ lt-ltb n p.0.next (let e : next_of b s ≡ p.0.next = ap (peer_field next_field 1) p.1 in omega (arith, below, e))
-
-    pub taken_up : (n : ℕ) → IsTaken (pledged t a) (closed_of a t) n → is_taken_for a n t ≡ true
+    pub taken_up : (n : ℕ) → IsTaken (pledged t a n) (is_closed_for a n t) → is_taken_for a n t ≡ true
     taken_up n taken = by (has_promise a n t) refl
       where
-        closed_now : (y : Pledge) → IsNoPledge y n → IsTaken y (closed_of a t) n → n ≤ closed_of a t
-        closed_now NoPledge none taken = taken
-        closed_now (Pledged k load) none taken = decide (nat_le n (closed_of a t)) refl
-          where
-            decide : (b : Bool) → nat_le n (closed_of a t) ≡ b → n ≤ closed_of a t
-            decide true e = leb-true n (closed_of a t) e
-            decide false e = absurd (none (taken (leb-false n (closed_of a t) e)))
-
-        by : (b : Bool) → has_promise a n t ≡ b → (b || is_closed_for a n t) ≡ true
+        by : (c : Bool) → has_promise a n t ≡ c → (c || is_closed_for a n t) ≡ true
         by true e = refl
-        by false e = closed_up n (closed_now (pledged t a) (no_pledge t a n e) taken)
+        by false e = subst (λ o. IsTaken (pledge_seen o) (is_closed_for a n t)) (none_found (is_promise (peer_number a n)) t.promises e) taken
 
-    promised_next : (n : ℕ) → has_promise a n t ≡ true → (n ≡ closed_of a t + 1) × (n < next_of b s)
-    promised_next n k = let p = pledge_at t order_t a n k in subst (λ q. PledgeOk q (next_of b s) (closed_of a t)) p.1 ok.pledge
-
-    pub next_open : (n : ℕ) → has_promise a n t ≡ true → is_next_open n (find_peer a t) ≡ true
-    next_open n k =
-        let p = peer_is a b s t sat tat in
-        let q = promised_next n k in
-        ap (is_next_open n) p.1 ∙ eq-eqb n (p.0.closed + 1) (q.0 ∙ ap (λ o. peer_field closed_field 0 o + 1) p.1)
+    promised_ok : (n : ℕ) → has_promise a n t ≡ true → (was_given n (find_peer b s) ≡ true) × (is_closed_for a n t ≡ false)
+    promised_ok n k = let p = pledge_at t a n k in subst (λ q. PledgeOk q (gave s b n) (is_closed_for a n t)) p.1 (ok n).pledge
 
     pub in_step : AreInStep a b s t
     in_step = record {
-      offered = λ n k. (let e = open_offer s order_s (net.paired.lone a s sat) b n (open_hand b n s k) in
-          let o = subst (λ o. OfferOk o (next_of b s) (pledged t a) (closed_of a t)) e.1 ok.offer in still_open n o.1);
-      given = λ n k. (let e = given_offer s (net.paired.lone a s sat) b n (given_hand b n s k) in
-          let o = subst (λ o. OfferOk o (next_of b s) (pledged t a) (closed_of a t)) e ok.offer in taken_up n o.1);
-      promised = λ n k. (let p = promised_next n k in still_open n (let q = p.0 in omega (arith, q)));
+      offered = λ n k. (let e = open_offer s order_s b n (open_hand b n s k) in
+          let o = subst (λ o. OfferOk o (gave s b n) (pledged t a n) (is_closed_for a n t)) e.1 (ok n).offer in o.1);
+      given = λ n k. (let e = given_offer s b n (given_hand b n s k) in
+          let o = subst (λ o. OfferOk o (gave s b n) (pledged t a n) (is_closed_for a n t)) e (ok n).offer in taken_up n o.1);
+      promised = λ n k. (promised_ok n k).1;
       numbered = λ n k. numbered n (has_promise a n t) refl k;
     }
       where
         numbered : (n : ℕ) (c : Bool) → has_promise a n t ≡ c → (c || is_closed_for a n t) ≡ true → was_given n (find_peer b s) ≡ true
-        numbered n true e k = given_up n (promised_next n e).1
-        numbered n false e k = given_up n (let below = closed_down n k in let less = ok.below in omega (arith, below, less))
+        numbered n true e k = (promised_ok n e).0
+        numbered n false e k = (ok n).closed k
 
     -- messages
 
-    given_or_closed : (n : ℕ) → IsGiven (offered s b) (closed_of a t) n → (is_committed_to b n s || is_closed_for a n t) ≡ true
-    given_or_closed n given = by (nat_le n (closed_of a t)) refl
+    given_or_closed : (n : ℕ) → IsGiven (offered s b n) (is_closed_for a n t) → (is_committed_to b n s || is_closed_for a n t) ≡ true
+    given_or_closed n given = by (offered s b n) refl given
       where
-        committed : (o : Offer) → offered s b ≡ o → closed_of a t < n → IsGiven o (closed_of a t) n → is_committed_to b n s ≡ true
-        committed NoOffer e above g = absurd (omega (arith, above, g))
-        committed (Open k load) e above g = absurd (omega (arith, above, g))
-        committed (Given k id queue) e above g = committed_hand s order_s b n id queue (e ∙ ap (λ i. Given i id queue) (g above))
+        by : (o : Offer) → offered s b n ≡ o → IsGiven o (is_closed_for a n t) → (is_committed_to b n s || is_closed_for a n t) ≡ true
+        by NoOffer e g = or_right (is_committed_to b n s) (is_closed_for a n t) g
+        by (Open load) e g = or_right (is_committed_to b n s) (is_closed_for a n t) g
+        by (Given id queue) e g = or_left (is_committed_to b n s) (is_closed_for a n t) (committed_hand s b n id queue e)
 
-        by : (c : Bool) → nat_le n (closed_of a t) ≡ c → (is_committed_to b n s || is_closed_for a n t) ≡ true
-        by true e = or_right (is_committed_to b n s) (is_closed_for a n t) (closed_up n (leb-true n (closed_of a t) e))
-        by false e = or_left (is_committed_to b n s) (is_closed_for a n t) (committed (offered s b) refl (leb-false n (closed_of a t) e) given)
-
-    pub no_hand : (n : ℕ) → IsNoOffer (offered s b) n → is_some (find_hand b n s) ≡ false
+    pub no_hand : (n : ℕ) → IsNoOffer (offered s b n) → is_some (find_hand b n s) ≡ false
     no_hand n none = of (find_hand b n s) refl
       where
         by : (y : Hand) → find_hand b n s ≡ Some y → (p : Phase) → y.phase ≡ p → ⊥
-        by y e Offered is = let o = open_offer s order_s (net.paired.lone a s sat) b n (record { hand = y; found = e; is = is }) in
-            subst (λ o. IsNoOffer o n) o.1 none refl
-        by y e Committed is = let o = given_offer s (net.paired.lone a s sat) b n (record { hand = y; found = e; is = is }) in
-            subst (λ o. IsNoOffer o n) o none refl
+        by y e Offered is = let o = open_offer s order_s b n (record { hand = y; found = e; is = is }) in subst IsNoOffer o.1 none
+        by y e Committed is = subst IsNoOffer (given_offer s b n (record { hand = y; found = e; is = is })) none
 
         of : (o : Option Hand) → find_hand b n s ≡ o → is_some o ≡ false
         of None e = refl
@@ -183,10 +138,10 @@ module _ (site : List (List ℕ)) (m : Moment) (sound : IsSound site m) (net : I
 
     -- the row of an open handover, and what it carries
     pub open_load : (n : ℕ) → is_open b n s ≡ true → (hand : HasHand Offered b n s) × (r : PlainRow) × (find_row hand.hand.id s ≡ Some r)
-        × (offered s b ≡ Open n (offered_load hand.hand.queue r)) × (load_of b n s ≡ Some (offered_load hand.hand.queue r))
+        × (offered s b n ≡ Open (offered_load hand.hand.queue r)) × (load_of b n s ≡ Some (offered_load hand.hand.queue r))
     open_load n k =
         let hand = open_hand b n s k in
-        let r = open_row s order_s (net.paired.lone a s sat) b n hand in (
+        let r = open_row s order_s b n hand in (
           hand,
           r.0,
           r.1,
@@ -195,30 +150,24 @@ module _ (site : List (List ℕ)) (m : Moment) (sound : IsSound site m) (net : I
               ∙ ap (option_map (offered_load hand.hand.queue)) r.1,
         )
 
-    pub offers_load : (n : ℕ) (load : Load) → IsOf (offered s b) n load → is_open b n s ≡ true → load_of b n s ≡ Some load
+    pub offers_load : (n : ℕ) (load : Load) → IsOf (offered s b n) load → is_open b n s ≡ true → load_of b n s ≡ Some load
     offers_load n load is k =
         let o = open_load n k in
-        let same : load ≡ offered_load o.0.hand.queue o.1 = subst (λ o. IsOf o n load) o.3 is refl in
+        let same : load ≡ offered_load o.0.hand.queue o.1 = subst (λ o. IsOf o load) o.3 is in
         o.4 ∙ ap Some (sym same)
 
     -- a promise, and what is seen of it
-    pledge_found : (n : ℕ) → has_promise a n t ≡ true → (p : Pledging) × (find_promise a n t ≡ Some p) × (pledged t a ≡ Pledged n (kept_load p.row))
-    pledge_found n promised =
-        let p = promise_at t a n promised in (
-          p.0,
-          p.1,
-          ap pledge_seen (promise_to_peer t order_t (peer_number a n) p.0 p.1)
-              ∙ ap (λ i. Pledged i (kept_load p.0.row)) (sym (promise_number t order_t (peer_number a n) p.0 p.1)),
-        )
+    pledge_found : (n : ℕ) → has_promise a n t ≡ true → (p : Pledging) × (find_promise a n t ≡ Some p) × (pledged t a n ≡ Pledged (kept_load p.row))
+    pledge_found n promised = let p = promise_at t a n promised in (p.0, p.1, ap pledge_seen p.1)
 
     -- an open handover, and the promise of its number
     pub promise_agrees : (n : ℕ) → is_open b n s ≡ true → has_promise a n t ≡ true → promised_load a n t ≡ load_of b n s
     promise_agrees n opens promised =
         let o = open_load n opens in
         let p = pledge_found n promised in
-        let agrees : Agrees (pledged t a) n (offered_load o.0.hand.queue o.1) =
-        (subst (λ x. OfferOk x (next_of b s) (pledged t a) (closed_of a t)) o.3 ok.offer).2 in
-        let same : kept_load p.0.row ≡ offered_load o.0.hand.queue o.1 = subst (λ x. Agrees x n (offered_load o.0.hand.queue o.1)) p.2 agrees refl in
+        let agrees : Agrees (pledged t a n) (offered_load o.0.hand.queue o.1) =
+        (subst (λ x. OfferOk x (gave s b n) (pledged t a n) (is_closed_for a n t)) o.3 (ok n).offer).2 in
+        let same : kept_load p.0.row ≡ offered_load o.0.hand.queue o.1 = subst (λ x. Agrees x (offered_load o.0.hand.queue o.1)) p.2 agrees in
         ap (option_map (λ (p : Pledging). kept_load p.row)) p.1 ∙ (ap Some same ∙ sym o.4)
 
     -- a committed handover, and the promise of its number
@@ -226,40 +175,41 @@ module _ (site : List (List ℕ)) (m : Moment) (sound : IsSound site m) (net : I
     promise_named n given promised =
         let hand = given_hand b n s given in
         let p = pledge_found n promised in
-        let e = given_offer s (net.paired.lone a s sat) b n hand in
-        let named : IsPromisedAs (pledged t a) n hand.hand.id hand.hand.queue =
-        (subst (λ x. OfferOk x (next_of b s) (pledged t a) (closed_of a t)) e ok.offer).2 in
+        let e = given_offer s b n hand in
+        let named : IsPromisedAs (pledged t a n) hand.hand.id hand.hand.queue =
+        (subst (λ x. OfferOk x (gave s b n) (pledged t a n) (is_closed_for a n t)) e (ok n).offer).2 in
         let same : (p.0.row.id ≡ hand.hand.id) × (p.0.row.queue ≡ hand.hand.queue) =
-        subst (λ x. IsPromisedAs x n hand.hand.id hand.hand.queue) p.2 named refl in
+        subst (λ x. IsPromisedAs x hand.hand.id hand.hand.queue) p.2 named in
         ap (option_map (λ (p : Pledging). errand p.row.id p.row.queue)) p.1
         ∙ ((λ j. Some (errand (same.0 j) (same.1 j))) ∙ sym (ap (option_map (λ (h : Hand). errand h.id h.queue)) hand.found))
 
   -- what was ever said is true
   pub words_are_true : (x : Message) → Sent x m.packets → (s t : Plain) → At m.states x.from s → At m.states x.to t → IsTrueOf x.body x.from x.to s t
-  words_are_true x sent s t sat tat = of x.body (net.paired.words x sent s t sat tat)
+  words_are_true x sent s t sat tat = of x.body (net.paired.words x sent s t sat tat) (net.paired.lows x sent s sat)
     where
-      of : (b : Body) → HoldsFor (pair_of x.from s x.to t) (pair_of x.to t x.from s) b → IsTrueOf b x.from x.to s t
-      of (body.Offer n queue c script) h = offers_load x.from x.to s t sat tat n (sent_load queue c script) h.1
-      of (body.Ready n) h = taken_up x.to x.from t s tat sat n h.1
-      of (body.Refused n refusal) h = given_up x.to x.from t s tat sat n h.0
-      of (body.Commit n) h = given_or_closed x.from x.to s t sat tat n h.1
-      of (body.Done n) h = closed_up x.to x.from t s tat sat n h.1
-      of (body.Inquire n) h = taken_up x.to x.from t s tat sat n h.1
-      of (body.Abort n) h = no_hand x.from x.to s t sat tat n h.1
-      of b h = tt
+      of : (b : Body) → HoldsFor (pair_of x.from s x.to t (body_number b)) (pair_of x.to t x.from s (body_number b)) b → LowWord b x.to s
+          → IsTrueOf b x.from x.to s t
+      of (body.Offer n low queue c script) h l = (offers_load x.from x.to s t sat tat n (sent_load queue c script) h.1, l.2, l.1)
+      of (body.Ready n) h l = taken_up x.to x.from t s tat sat n h.1
+      of (body.Refused n refusal) h l = h.0
+      of (body.Commit n) h l = given_or_closed x.from x.to s t sat tat n h.1
+      of (body.Done n) h l = h.1
+      of (body.Inquire n) h l = taken_up x.to x.from t s tat sat n h.1
+      of (body.Abort n) h l = no_hand x.from x.to s t sat tat n h.1
+      of b h l = tt
 
   -- the number of what was ever said was given
   pub words_are_numbered : (x : Message) → Sent x m.packets → (s t : Plain) → At m.states x.from s → At m.states x.to t → HasGivenNumber x.body x.from x.to s t
   words_are_numbered x sent s t sat tat = of x.body (net.paired.words x sent s t sat tat)
     where
-      of : (b : Body) → HoldsFor (pair_of x.from s x.to t) (pair_of x.to t x.from s) b → HasGivenNumber b x.from x.to s t
-      of (body.Offer n queue c script) h = given_up x.from x.to s t sat tat n h.0
-      of (body.Ready n) h = given_up x.to x.from t s tat sat n h.0
-      of (body.Refused n refusal) h = given_up x.to x.from t s tat sat n h.0
-      of (body.Commit n) h = given_up x.from x.to s t sat tat n h.0
-      of (body.Done n) h = given_up x.to x.from t s tat sat n h.0
-      of (body.Inquire n) h = given_up x.to x.from t s tat sat n h.0
-      of (body.Abort n) h = given_up x.from x.to s t sat tat n h.0
+      of : (b : Body) → HoldsFor (pair_of x.from s x.to t (body_number b)) (pair_of x.to t x.from s (body_number b)) b → HasGivenNumber b x.from x.to s t
+      of (body.Offer n low queue c script) h = h.0
+      of (body.Ready n) h = h.0
+      of (body.Refused n refusal) h = h.0
+      of (body.Commit n) h = h.0
+      of (body.Done n) h = h.0
+      of (body.Inquire n) h = h.0
+      of (body.Abort n) h = h.0
       of b h = tt
 
   module _ (away : IsAway m) where
@@ -284,7 +234,7 @@ module _ (site : List (List ℕ)) (m : Moment) (sound : IsSound site m) (net : I
         apart : a ≡ b → ⊥
         apart e =
             let hand = open_hand b n s is in
-            let peer : b ≡ hand.hand.peer = hand_peer s (net.paired.lone a s sat) (peer_number b n) hand.hand hand.found in
+            let peer : b ≡ hand.hand.peer = hand_peer s (peer_number b n) hand.hand hand.found in
             let far = list_all-found (is_away a) (is_hand (peer_number b n)) s.hands hand.hand (away.hands a s sat) hand.found in
             true≢false (sym (host_same a) ∙ (ap (same_host a) (e ∙ peer) ∙ not-true (same_host a hand.hand.peer) far))
 
@@ -322,17 +272,13 @@ module _ (site : List (List ℕ)) (m : Moment) (sound : IsSound site m) (net : I
       committed true e k = e
       committed false e k = absurd (true≢false (sym k ∙ (in_step a b s t sat tat).promised n promised))
 
-      arrives : net.table p.row.id ≡ Arrives a b p.row
+      arrives : net.table p.row.id ≡ Arrives a b n p.row
       arrives =
-          let order = (sound.hosts b.0 t tat).order in
           let hand = given_hand b n s (committed (is_committed_to b n s) refl sent) in
-          let given : offered s b ≡ Given n hand.hand.id hand.hand.queue = given_offer s (net.paired.lone a s sat) b n hand in
-          let here : promise_of a t ≡ Some p = promise_to_peer t order (peer_number a n) p found in
-          let number : (p.number == n) ≡ true = eq-eqb p.number n (sym (promise_number t order (peer_number a n) p found)) in
-          let claims : claim (offered s b) (promise_of a t) p.row.id ≡ Some p.row =
-          (λ j. claim (given j) (here j) p.row.id) ∙ (ap (λ (c : Bool). if c then (if id_eq p.row.id p.row.id then Some p.row else None) else None) number
-          ∙ ap (λ (c : Bool). if c then Some p.row else None) (same_id p.row.id)) in
-          arrives_here a b (net.table p.row.id) p.row (sym (net.told.claims a b s t sat tat p.row.id) ∙ claims)
+          let given : offered s b n ≡ Given hand.hand.id hand.hand.queue = given_offer s b n hand in
+          let claims : claim (offered s b n) (find_promise a n t) p.row.id ≡ Some p.row =
+          (λ j. claim (given j) (found j) p.row.id) ∙ ap (λ (c : Bool). if c then Some p.row else None) (same_id p.row.id) in
+          arrives_here a b n (net.table p.row.id) p.row (sym (net.told.claims a b s t sat tat n p.row.id) ∙ claims)
 
       of : (o : Option PlainRow) → find_row p.row.id t ≡ o → passes (λ _. true) o ≡ true → ⊥
       of None e k = true≢false (sym k)
@@ -363,10 +309,6 @@ module _ (site : List (List ℕ)) (few : IsSite site) (acts : List Act) (sane : 
       → HasGivenNumber m.body m.from m.to s t
   all_numbered m sent s t sat tat = words_are_numbered site end sound_end history_end.net m (packet_sent sent.0 world m sent.1) s t sat tat
 
-  pub all_next : (a b : HostId) (s t : Plain) → IsStateOf world a s → IsStateOf world b t → (n : ℕ) → has_promise a n t ≡ true
-      → is_next_open n (find_peer a t) ≡ true
-  all_next a b s t sat tat = next_open site end sound_end history_end.net a b s t sat tat
-
   pub all_agree : (a b : HostId) (s t : Plain) → IsStateOf world a s → IsStateOf world b t → (n : ℕ) → is_open b n s ≡ true → has_promise a n t ≡ true
       → promised_load a n t ≡ load_of b n s
   all_agree a b s t sat tat = promise_agrees site end sound_end history_end.net a b s t sat tat
@@ -375,11 +317,11 @@ module _ (site : List (List ℕ)) (few : IsSite site) (acts : List Act) (sane : 
       → promised_errand a n t ≡ handed_errand b n s
   all_named a b s t sat tat = promise_named site end sound_end history_end.net a b s t sat tat
 
-  pub open_offers : (m : Message) (n : ℕ) (queue : List ℕ) (c : Carried) (script : List ℕ) → WasSentIn world m → m.body ≡ body.Offer n queue c script
+  pub open_offers : (m : Message) (n low : ℕ) (queue : List ℕ) (c : Carried) (script : List ℕ) → WasSentIn world m → m.body ≡ body.Offer n low queue c script
       → (s t : Plain) → IsStateOf world m.from s → IsStateOf world m.to t → is_open m.to n s ≡ true → (has_row c.id t || is_not_given_here c.id t) ≡ false
-  open_offers m n queue c script sent is s t sat tat opens =
+  open_offers m n low queue c script sent is s t sat tat opens =
       offer_is_new site end sound_end history_end.net history_end.away m.from m.to s t sat tat n c queue script opens
-      (subst (λ b. IsTrueOf b m.from m.to s t) is (all_true m sent s t sat tat) opens)
+      ((subst (λ b. IsTrueOf b m.from m.to s t) is (all_true m sent s t sat tat)).0 opens)
 
   pub accepted_rows : (m : Message) (n : ℕ) (p : Pledging) → WasSentIn world m → m.body ≡ body.Commit n → (s t : Plain) → IsStateOf world m.from s
       → IsStateOf world m.to t → find_promise m.from n t ≡ Some p → has_row p.row.id t ≡ false

@@ -9,7 +9,7 @@ use Rattle.nqs_types.specs.declared.request.Phase.TheVariants.{Offered}
 use Rattle.nqs_types.specs.declared.request.Promise.{Promise}
 use Rattle.nqs_types.specs.declared.change.Change.{Change}
 use Rattle.nqs_types.specs.declared.change.Change.TheVariants.{Site, Deleted, Ended, Edited, HandOpened, HandCommitted, HandRefused, HandsSilent, HandDone}
-use Rattle.nqs_types.specs.declared.change.Change.TheVariants.{Promised, Accepted, Dropped, StageGot}
+use Rattle.nqs_types.specs.declared.change.Change.TheVariants.{OldPromised, Promised, Accepted, Dropped, StageGot}
 use Rattle.nqs_rules.specs.Find.{peer_number, has_row, find_hand, find_promise}
 use Rattle.nqs_rules.specs.Applied.{applied, is_offered_for, committed, hand_committed, hand_refused, hand_silent, hands_silent, drop_promise, requeued_row}
 use Rattle.nqs_rules.specs.Applied.{accepted}
@@ -25,8 +25,8 @@ module _ (test : Hand → Bool) where
   Opens (HandOpened peer number id queue since) = test (record { peer = peer; number = number; id = id; queue = queue; since = since; phase = Offered }) ≡ true
   Opens c = Unit {0}
 
-module _ (test : Hand → Bool) (still : (y : Hand) → test (committed y) ≡ test y) where
-  silents_pass : (until : ℕ) (ks : List PeerNumber) (s : Plain) → list_all test s.hands ≡ true → list_all test (hands_silent until ks s).hands ≡ true
+module _ (test : Hand → Bool) where
+  pub silents_pass : (until : ℕ) (ks : List PeerNumber) (s : Plain) → list_all test s.hands ≡ true → list_all test (hands_silent until ks s).hands ≡ true
   silents_pass until [] s k = k
   silents_pass until (n ∷ ks) s k = silents_pass until ks (hand_silent until n (find_hand n.peer n.number s) s) (of (find_hand n.peer n.number s))
     where
@@ -34,6 +34,7 @@ module _ (test : Hand → Bool) (still : (y : Hand) → test (committed y) ≡ t
       of None = k
       of (Some y) = part_all test (without_part (is_hand n) s.hands) k
 
+module _ (test : Hand → Bool) (still : (y : Hand) → test (committed y) ≡ test y) where
   pub hands_kept : (c : Change (List ℕ)) (s : Plain) → fits c s ≡ true → Opens test c → list_all test s.hands ≡ true → list_all test (applied c s).hands ≡ true
   hands_kept (Site me site) s fit opens k = absurd (true≢false (sym fit))
   hands_kept (Deleted id) s fit opens k = part_all test (filter_part (λ y. not (is_offered_for id y)) s.hands) k
@@ -49,9 +50,10 @@ module _ (test : Hand → Bool) (still : (y : Hand) → test (committed y) ≡ t
       of : (o : Option Hand) → list_all test (hand_refused (peer_number peer number) refusal o s).hands ≡ true
       of None = k
       of (Some y) = part_all test (without_part (is_hand (peer_number peer number)) s.hands) k
-  hands_kept (HandsSilent until ks) s fit opens k = silents_pass until ks s k
+  hands_kept (HandsSilent until ks) s fit opens k = silents_pass test until ks s k
   hands_kept (HandDone peer number) s fit opens k = part_all test (without_part (is_hand (peer_number peer number)) s.hands) k
-  hands_kept (Promised peer number queue c script) s fit opens k = k
+  hands_kept (OldPromised peer number queue c script) s fit opens k = k
+  hands_kept (Promised peer number low queue c script) s fit opens k = k
   hands_kept (Accepted peer number) s fit opens k = of (find_promise peer number s)
     where
       of : (o : Option (Promise (List ℕ))) → list_all test (accepted (peer_number peer number) o s).hands ≡ true

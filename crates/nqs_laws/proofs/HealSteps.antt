@@ -102,7 +102,7 @@ module _ (h : HostId) (s : Plain) (me : s.me ≡ h) where
       repeats : (y : Hand) → y.phase ≡ Committed → In {V = Pending (List ℕ)} (send_commit s y.peer y.number) (repeat_hand now s y)
       repeats y is =
           subst (λ p. In {V = Pending (List ℕ)} (send_commit s y.peer y.number)
-          (if is_offered p && nat_le (later y.since s.patience) now then [] else repeat_phase p s y)) (sym is) (zero, refl)
+          (if is_offered p && nat_le (later y.since s.patience) now then [] else repeat_phase p now s y)) (sym is) (zero, refl)
 
   -- answers
 

@@ -52,7 +52,7 @@ use Rattle.nqs_rules.specs.Picked.{PlainRow}
 pub entry_here : (site : List (List ℕ)) (m : Moment) → IsSound site m → IsNet m → (h : HostId) (s : Plain) → At m.states h s → (x : Request) (r : PlainRow)
     → find_row x s ≡ Some r → entry_of x m.states ≡ Some (row_entry h r)
 entry_here site m sound net h s there x r found =
-    entry_is m.states net.table net.told (λ b u at. (sound.hosts b.0 u at).order) net.paired.lone x
+    entry_is m.states net.table net.told (λ b u at. (sound.hosts b.0 u at).order) x
     ∙ ap entry_at (sits_here h (net.table x) r (sym (net.told.rows h s there x) ∙ found))
 
 -- a request that lies somewhere has a number that was given
@@ -63,7 +63,7 @@ lies_given site m sound net x e lies s at = by (nat_le x.seq s.seq) refl
     by true k = leb-true x.seq s.seq k
     by false k =
         let more : s.seq < x.seq = leb-false x.seq s.seq k in
-        absurd (none-some e (sym (entry_is m.states net.table net.told (λ b u at. (sound.hosts b.0 u at).order) net.paired.lone x
+        absurd (none-some e (sym (entry_is m.states net.table net.told (λ b u at. (sound.hosts b.0 u at).order) x
         ∙ ap entry_at (net.told.given x s at more)) ∙ lies))
 
 pub record IsLaunching (first : List Plain) (m : Moment) : Type 0 where

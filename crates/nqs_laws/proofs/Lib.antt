@@ -3,6 +3,7 @@ pub mod Frame
 pub mod Told
 pub mod RowTests
 pub mod Sides
+pub mod LowFacts
 pub mod Sent
 pub mod Sound
 pub mod Always
@@ -15,6 +16,7 @@ pub mod After
 pub mod Spares
 pub mod Views
 pub mod Turns
+pub mod Lows
 pub mod Targets
 pub mod Paired
 pub mod Guarded
@@ -50,8 +52,8 @@ pub mod SmallDisks
 pub mod AlikeRuns
 pub mod Kept
 pub mod ClosedNumbers
+pub mod Near
 pub mod WentOuts
-pub mod LastGiven
 pub mod Numbered
 pub mod Scripted
 pub mod NoOthers

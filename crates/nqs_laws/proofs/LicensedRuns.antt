@@ -50,10 +50,10 @@ module _ (site : List (List ℕ)) (m : Moment) (sound : IsSound site m) (net : I
   advanced = advance site m sound net.paired h s there net.table net.told way c is suits
 
   entry_before : (x : Request) → entry_of x m.states ≡ entry_at (net.table x)
-  entry_before x = entry_is m.states net.table net.told (λ b u at. (sound.hosts b.0 u at).order) net.paired.lone x
+  entry_before x = entry_is m.states net.table net.told (λ b u at. (sound.hosts b.0 u at).order) x
 
   entry_later : (x : Request) → entry_of x (put_state h (applied c s) m.states) ≡ entry_at (advanced.then_table x)
-  entry_later x = entry_is (put_state h (applied c s) m.states) advanced.then_table advanced.told later_sound later_paired.lone x
+  entry_later x = entry_is (put_state h (applied c s) m.states) advanced.then_table advanced.told later_sound x
 
   -- what a change makes of an entry
   pub turn_is : (x : Request) → TurnStep c s x (entry_of x m.states) (entry_of x (put_state h (applied c s) m.states))
@@ -77,7 +77,7 @@ module _ (site : List (List ℕ)) (m : Moment) (sound : IsSound site m) (net : I
   change_licensed xs =
       let host = sound.hosts h.0 s there in
       let same : put_state h (applied c s) m.states ≡ change_at h.0 (applied c) m.states = sym (at-value h.0 (applied c) s m.states there) in (
-        ap is_table (sym same) ∙ one_place (put_state h (applied c s) m.states) advanced.then_table advanced.told later_sound later_paired.lone,
+        ap is_table (sym same) ∙ one_place (put_state h (applied c s) m.states) advanced.then_table advanced.told later_sound,
         λ t at x.
             let equal : s ≡ t = same_Some s t (sym there ∙ at) in
             subst (λ v. IsLicensed (why_by way) v x (entry_of x m.states) (entry_of x (change_at h.0 (applied c) m.states))) equal

@@ -50,7 +50,7 @@ pub record HasHand (phase : Phase) (peer : HostId) (n : ℕ) (s : Plain) : Type 
 
 -- the change that a message makes
 abbrev pub Answers : Body → HostId → Plain → Change (List ℕ) → Type 0
-Answers (body.Offer n queue c script) peer s ch = (ch ≡ Promised peer n queue c script) × (closes n (find_peer peer s) ≡ false) × (has_promise peer n s ≡ false)
+Answers (body.Offer n low queue c script) peer s ch = (ch ≡ Promised peer n low queue c script) × (closes n (find_peer peer s) ≡ false) × (has_promise peer n s ≡ false)
 Answers (body.Ready n) peer s ch = (ch ≡ HandCommitted peer n) × HasHand Offered peer n s
 Answers (body.Refused n refusal) peer s ch = (ch ≡ HandRefused peer n refusal) × HasHand Offered peer n s
 Answers (body.Commit n) peer s ch = (ch ≡ Accepted peer n) × (has_promise peer n s ≡ true)
@@ -126,21 +126,21 @@ module _ (s : Plain) where
   command_makes now a user (command.UnreadWords fault) = tt
 
   module _ (peer : HostId) where
-    offer_makes : (n : ℕ) (queue : List ℕ) (c : Carried) (script : List ℕ)
-        → IfSome (on_offer peer n queue c script s).change (Answers (body.Offer n queue c script) peer s)
-    offer_makes n queue c script = by (closes n (find_peer peer s)) refl (has_promise peer n s) refl
+    offer_makes : (n low : ℕ) (queue : List ℕ) (c : Carried) (script : List ℕ)
+        → IfSome (on_offer peer n low queue c script s).change (Answers (body.Offer n low queue c script) peer s)
+    offer_makes n low queue c script = by (closes n (find_peer peer s)) refl (has_promise peer n s) refl
       where
         made : closes n (find_peer peer s) ≡ false → has_promise peer n s ≡ false → (o : Result (Unit {0}) Refusal)
-            → IfSome (offer_by o peer n queue c script s).change (Answers (body.Offer n queue c script) peer s)
+            → IfSome (offer_by o peer n low queue c script s).change (Answers (body.Offer n low queue c script) peer s)
         made opens new (Err r) = tt
         made opens new (Ok u) = (refl, opens, new)
 
         by : (a : Bool) → closes n (find_peer peer s) ≡ a → (b : Bool) → has_promise peer n s ≡ b
             → IfSome (if a then says (send_done s peer n ∷ []) else (if b then says (send_ready s peer n ∷ []) else
-            offer_by (first_refusal (offer_causes peer queue c s)) peer n queue c script s)).change (Answers (body.Offer n queue c script) peer s)
+            offer_by (first_refusal (offer_causes peer low queue c s)) peer n low queue c script s)).change (Answers (body.Offer n low queue c script) peer s)
         by true opens b new = tt
         by false opens true new = tt
-        by false opens false new = made opens new (first_refusal (offer_causes peer queue c s))
+        by false opens false new = made opens new (first_refusal (offer_causes peer low queue c s))
 
     ready_makes : (n : ℕ) → IfSome (on_ready peer n s).change (λ ch. (ch ≡ HandCommitted peer n) × HasHand Offered peer n s)
     ready_makes n = of (find_hand peer n s) refl
@@ -216,7 +216,7 @@ module _ (s : Plain) where
     staged_makes n false = tt
 
     message_makes : (b : Body) → IfSome (on_message peer b s).change (Answers b peer s)
-    message_makes (body.Offer n queue c script) = offer_makes n queue c script
+    message_makes (body.Offer n low queue c script) = offer_makes n low queue c script
     message_makes (body.Ready n) = ready_makes n
     message_makes (body.Refused n refusal) = refused_makes n refusal
     message_makes (body.Commit n) = commit_makes n
@@ -283,7 +283,7 @@ module _ (s : Plain) (ch : Change (List ℕ)) (new_or_far : is_new_or_far ch ≡
   not_other d other is = true≢false (sym new_or_far ∙ (ap is_new_or_far is ∙ other))
 
   answers_other : (b : Body) (peer : HostId) → Answers b peer s ch → ⊥
-  answers_other (body.Offer n queue c script) peer f = not_other _ refl f.0
+  answers_other (body.Offer n low queue c script) peer f = not_other _ refl f.0
   answers_other (body.Ready n) peer f = not_other _ refl f.0
   answers_other (body.Refused n refusal) peer f = not_other _ refl f.0
   answers_other (body.Commit n) peer f = not_other _ refl f.0

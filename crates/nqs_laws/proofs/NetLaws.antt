@@ -12,4 +12,4 @@ pub always_table : (site : List (List ℕ)) (acts : List Act) → IsSite site �
 always_table site acts few sane =
     let k = run_net site few acts sane in
     let sound = run_sound site few.1 acts sane in
-    one_place (states_of (run_of site acts).world) k.table k.told (λ a s at. (sound.hosts a.0 s at).order) k.paired.lone
+    one_place (states_of (run_of site acts).world) k.table k.told (λ a s at. (sound.hosts a.0 s at).order)

@@ -7,7 +7,7 @@ use Rattle.nqs_types.specs.declared.ids.HostId.{HostId}
 use Rattle.nqs_types.specs.declared.request.Job.{Job}
 use Rattle.nqs_types.specs.declared.request.Carried.{Carried}
 use Rattle.nqs_types.specs.declared.change.Change.{Change}
-use Rattle.nqs_types.specs.declared.change.Change.TheVariants.{Submitted, Deleted, Doomed, Boot, Promised}
+use Rattle.nqs_types.specs.declared.change.Change.TheVariants.{Submitted, Deleted, Doomed, Boot, OldPromised, Promised}
 use Rattle.nqs_types.specs.declared.message.Message.{Message}
 use Rattle.nqs_types.specs.declared.message.Body.{Body}
 use Rattle.nqs_types.specs.declared.message.Body.TheVariants as body
@@ -30,17 +30,18 @@ use Rattle.nqs_laws.proofs.Sound.{some-if}
 use Rattle.nqs_laws.proofs.Makes.{Answers, Obeys, Follows, step_makes}
 
 module _ (t : PlainRow → Bool) (h : HostId) (s : Plain) (packets : List Message)
-    (offered : (x : Message) → WasSent x packets → (n : ℕ) (queue : List ℕ) (c : Carried) (script : List ℕ) → x.body ≡ body.Offer n queue c script
+    (offered : (x : Message) → WasSent x packets → (n low : ℕ) (queue : List ℕ) (c : Carried) (script : List ℕ) → x.body ≡ body.Offer n low queue c script
     → t (new_row c queue (s.arrivals + 1) script) ≡ true)
     (ch : Change (List ℕ)) (submitted : (queue : List ℕ) (job : Job) (script : List ℕ) → ch ≡ Submitted queue job script
     → t (new_row (first_carried (next_id s) job) queue (s.arrivals + 1) script) ≡ true) where
   begun_passes : (r : PlainRow) (c : Change (List ℕ)) → StartsRow s r c → NewPasses t c s
   begun_passes r (Submitted queue job script) starts = absurd starts
-  begun_passes r (Promised peer n queue c script) starts = absurd starts
+  begun_passes r (OldPromised peer n queue c script) starts = absurd starts
+  begun_passes r (Promised peer n low queue c script) starts = absurd starts
   begun_passes r c starts = tt
 
   answered_passes : (x : Message) → WasSent x packets → (b : Body) → x.body ≡ b → Answers b x.from s ch → NewPasses t ch s
-  answered_passes x sent (body.Offer n queue c script) e a = subst (λ y. NewPasses t y s) (sym a.0) (offered x sent n queue c script e)
+  answered_passes x sent (body.Offer n low queue c script) e a = subst (λ y. NewPasses t y s) (sym a.0) (offered x sent n low queue c script e)
   answered_passes x sent (body.Ready n) e a = subst (λ y. NewPasses t y s) (sym a.0) tt
   answered_passes x sent (body.Refused n refusal) e a = subst (λ y. NewPasses t y s) (sym a.0) tt
   answered_passes x sent (body.Commit n) e a = subst (λ y. NewPasses t y s) (sym a.0) tt
@@ -80,6 +81,6 @@ module _ (t : PlainRow → Bool) (h : HostId) (s : Plain) (packets : List Messag
 
 -- what a sent offer carries passes the test that all offers pass
 pub carried_passes : (test : Carried → Bool) (packets : List Message) → list_all (offers_pass test) packets ≡ true → (x : Message) → WasSent x packets
-    → (n : ℕ) (queue : List ℕ) (c : Carried) (script : List ℕ) → x.body ≡ body.Offer n queue c script → test c ≡ true
-carried_passes test packets all x sent n queue c script e = let passes : body_passes test x.body ≡ true =
+    → (n low : ℕ) (queue : List ℕ) (c : Carried) (script : List ℕ) → x.body ≡ body.Offer n low queue c script → test c ≡ true
+carried_passes test packets all x sent n low queue c script e = let passes : body_passes test x.body ≡ true =
     all_get (offers_pass test) packets sent.0 x all sent.1 in ap (body_passes test) (sym e) ∙ passes

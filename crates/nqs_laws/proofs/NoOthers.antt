@@ -220,7 +220,7 @@ telling_keeps site first = record {
 none_lies : (site : List (List ℕ)) → IsSite site → (x : Request) → lies x (states_of (new_world site)) ≡ false
 none_lies site few x =
     ap is_some (entry_is (states_of (new_world site)) (new_net site).table (new_net site).told (λ b u at. ((new_sound site few.1).hosts b.0 u at).order)
-    (new_net site).paired.lone x ∙ ap entry_at (new_nowhere site x))
+    x ∙ ap entry_at (new_nowhere site x))
 
 pub no_others : (site : List (List ℕ)) → IsSite site → (acts : List Act) → AreSane acts → (x : Request)
     → lies x (states_of (run acts (new_world site)).world) ≡ true → IsKnown x (states_of (new_world site)) (history acts (new_world site))

@@ -135,7 +135,7 @@ weaker_offers : (t v : Carried → Bool) → ((c : Carried) → t c ≡ true →
 weaker_offers t v f xs k = list_all-weaker (offers_pass t) (offers_pass v) (λ x p. by x.body p) xs k
   where
     by : (b : Body) → body_passes t b ≡ true → body_passes v b ≡ true
-    by (body.Offer n queue c script) p = f c p
+    by (body.Offer n low queue c script) p = f c p
     by b p = p
 
 module _ (site : List (List ℕ)) (m : Moment) (k : IsSound site m) (p : IsNumbered m) (h : HostId) (s : Plain) (there : At m.states h s)
@@ -195,7 +195,7 @@ module _ (site : List (List ℕ)) (m : Moment) (k : IsSound site m) (p : IsNumbe
 
     opened_numbered : (d : Change (List ℕ)) → fits d s ≡ true → Opens (is_hand_numbered after) d
     opened_numbered (HandOpened peer number id queue since) fit =
-        let may = each (row_may (may_hop {E = List ℕ}) id s) (passes (is_next number) (find_peer peer s) ∷ _ ∷ []) fit in
+        let may = each (row_may (may_hop {E = List ℕ}) id s) (passes (is_next number) (find_peer peer s) ∷ _ ∷ _ ∷ []) fit in
         let r = found_row may_hop id s may.0 in
         ap (was_numbered after) (found_id id s.rows r.0 r.1) ∙ list_all-found (is_row_numbered after) (is_row id) s.rows r.0
         (known_later (applied c s) grows s (p.hosts h.0 s there)).rows.rows r.1

@@ -1,92 +1,92 @@
--- An ordered pair of hosts: the source's offer and its counter, the receiver's promise and its
--- closed number.
-use Rattle.std.proofs.Common.{◌≡◌, ℕ, ◌+◌, ◌-◌, ◌<◌, ◌≤◌, List, arith}
+-- What an ordered pair of hosts has under one number: the source's handover and whether it gave the
+-- number, the receiver's promise and whether the number is closed there.
+use Rattle.std.proofs.Common.{◌≡◌, ℕ, Bool, true, false, List, refl, sym, ◌∙◌, true≢false}
 use Rattle.nqs_types.specs.declared.ids.RequestId.{RequestId}
 use Rattle.nqs_laws.specs.Loads.{Load}
 
 pub data Offer : Type 0 where
   NoOffer : Offer
-  Open : (number : ℕ) → (load : Load) → Offer
-  Given : (number : ℕ) → (id : RequestId) → (queue : List ℕ) → Offer
+  Open : (load : Load) → Offer
+  Given : (id : RequestId) → (queue : List ℕ) → Offer
 
 pub data Pledge : Type 0 where
   NoPledge : Pledge
-  Pledged : (number : ℕ) → (load : Load) → Pledge
+  Pledged : (load : Load) → Pledge
 
 pub record Pair : Type 0 where
   pub offer : Offer
-  pub next : ℕ
+  pub numbered : Bool
   pub pledge : Pledge
-  pub closed : ℕ
+  pub closed : Bool
 
--- a message of the pair
+-- a message of the pair, under this number
 pub data Word : Type 0 where
-  OfferOf : (number : ℕ) → (load : Load) → Word
-  ReadyFor : (number : ℕ) → Word
-  RefusedOf : (number : ℕ) → Word
-  CommitOf : (number : ℕ) → Word
-  DoneOf : (number : ℕ) → Word
-  AbortOf : (number : ℕ) → Word
+  OfferOf : (load : Load) → Word
+  ReadyFor : Word
+  RefusedOf : Word
+  CommitOf : Word
+  DoneOf : Word
+  AbortOf : Word
 
--- the number is promised or closed
-abbrev pub IsTaken : Pledge → ℕ → ℕ → Type 0
-IsTaken NoPledge closed n = n ≤ closed
-IsTaken (Pledged m load) closed n = closed < n → m ≡ n
+-- it is promised or closed
+abbrev pub IsTaken : Pledge → Bool → Type 0
+IsTaken NoPledge closed = closed ≡ true
+IsTaken (Pledged load) closed = Unit {0}
 
-abbrev pub IsNoPledge : Pledge → ℕ → Type 0
-IsNoPledge NoPledge n = Unit {0}
-IsNoPledge (Pledged m load) n = m ≡ n → ⊥
+abbrev pub IsNoPledge : Pledge → Type 0
+IsNoPledge NoPledge = Unit {0}
+IsNoPledge (Pledged load) = ⊥
 
--- where the number is promised, it is this request
-abbrev pub Agrees : Pledge → ℕ → Load → Type 0
-Agrees NoPledge n load = Unit {0}
-Agrees (Pledged m other) n load = m ≡ n → other ≡ load
+-- where it is promised, it is this request
+abbrev pub Agrees : Pledge → Load → Type 0
+Agrees NoPledge load = Unit {0}
+Agrees (Pledged other) load = other ≡ load
 
--- where the number is promised, it is this request, for this queue
-abbrev pub IsPromisedAs : Pledge → ℕ → RequestId → List ℕ → Type 0
-IsPromisedAs NoPledge n id queue = Unit {0}
-IsPromisedAs (Pledged m load) n id queue = m ≡ n → (load.carried.id ≡ id) × (load.queue ≡ queue)
+-- where it is promised, it is this request, for this queue
+abbrev pub IsPromisedAs : Pledge → RequestId → List ℕ → Type 0
+IsPromisedAs NoPledge id queue = Unit {0}
+IsPromisedAs (Pledged load) id queue = (load.carried.id ≡ id) × (load.queue ≡ queue)
 
--- the number is committed or closed
-abbrev pub IsGiven : Offer → ℕ → ℕ → Type 0
-IsGiven NoOffer closed n = n ≤ closed
-IsGiven (Open m load) closed n = n ≤ closed
-IsGiven (Given m id queue) closed n = closed < n → m ≡ n
+-- it is committed or closed
+abbrev pub IsGiven : Offer → Bool → Type 0
+IsGiven NoOffer closed = closed ≡ true
+IsGiven (Open load) closed = closed ≡ true
+IsGiven (Given id queue) closed = Unit {0}
 
-abbrev pub IsNoOffer : Offer → ℕ → Type 0
-IsNoOffer NoOffer n = Unit {0}
-IsNoOffer (Open m load) n = m ≡ n → ⊥
-IsNoOffer (Given m id queue) n = m ≡ n → ⊥
+abbrev pub IsNoOffer : Offer → Type 0
+IsNoOffer NoOffer = Unit {0}
+IsNoOffer (Open load) = ⊥
+IsNoOffer (Given id queue) = ⊥
 
--- where the number is offered, it is this request
-abbrev pub IsOf : Offer → ℕ → Load → Type 0
-IsOf NoOffer n load = Unit {0}
-IsOf (Open m other) n load = m ≡ n → load ≡ other
-IsOf (Given m id queue) n load = Unit {0}
+-- where it is offered, it is this request
+abbrev pub IsOf : Offer → Load → Type 0
+IsOf NoOffer load = Unit {0}
+IsOf (Open other) load = load ≡ other
+IsOf (Given id queue) load = Unit {0}
 
-abbrev pub OfferOk : Offer → ℕ → Pledge → ℕ → Type 0
-OfferOk NoOffer next q closed = Unit {0}
-OfferOk (Open n load) next q closed = (n + 1 ≡ next) × (closed < n) × Agrees q n load
-OfferOk (Given n id queue) next q closed = (n + 1 ≡ next) × IsTaken q closed n × IsPromisedAs q n id queue
+abbrev pub OfferOk : Offer → Bool → Pledge → Bool → Type 0
+OfferOk NoOffer numbered q closed = Unit {0}
+OfferOk (Open load) numbered q closed = (numbered ≡ true) × (closed ≡ false) × Agrees q load
+OfferOk (Given id queue) numbered q closed = (numbered ≡ true) × IsTaken q closed × IsPromisedAs q id queue
 
-abbrev pub PledgeOk : Pledge → ℕ → ℕ → Type 0
-PledgeOk NoPledge next closed = Unit {0}
-PledgeOk (Pledged n load) next closed = (n ≡ closed + 1) × (n < next)
+abbrev pub PledgeOk : Pledge → Bool → Bool → Type 0
+PledgeOk NoPledge numbered closed = Unit {0}
+PledgeOk (Pledged load) numbered closed = (numbered ≡ true) × (closed ≡ false)
 
 -- what holds of a pair at every moment
 pub record Ok (p : Pair) : Type 0 where
-  pub below : p.closed < p.next
-  pub offer : OfferOk p.offer p.next p.pledge p.closed
-  pub pledge : PledgeOk p.pledge p.next p.closed
+  pub offer : OfferOk p.offer p.numbered p.pledge p.closed
+  pub pledge : PledgeOk p.pledge p.numbered p.closed
+  pub closed : p.closed ≡ true → p.numbered ≡ true
 
 -- what holds at every moment of a message that was ever sent
 abbrev pub Holds : Pair → Word → Type 0
-Holds p (OfferOf n load) = (n < p.next) × IsOf p.offer n load
-Holds p (ReadyFor n) = (n < p.next) × IsTaken p.pledge p.closed n
-Holds p (RefusedOf n) = (n < p.next) × Unit {0}
-Holds p (CommitOf n) = (n < p.next) × IsGiven p.offer p.closed n
-Holds p (DoneOf n) = (n < p.next) × (n ≤ p.closed)
-Holds p (AbortOf n) = (n < p.next) × IsNoOffer p.offer n
+Holds p (OfferOf load) = (p.numbered ≡ true) × IsOf p.offer load
+Holds p ReadyFor = (p.numbered ≡ true) × IsTaken p.pledge p.closed
+Holds p RefusedOf = (p.numbered ≡ true) × Unit {0}
+Holds p CommitOf = (p.numbered ≡ true) × IsGiven p.offer p.closed
+Holds p DoneOf = (p.numbered ≡ true) × (p.closed ≡ true)
+Holds p AbortOf = (p.numbered ≡ true) × IsNoOffer p.offer
 
 -- the changes of a pair
 pub data Move : Type 0 where
@@ -95,83 +95,204 @@ pub data Move : Type 0 where
   Withdraws : Move
   Commits : Move
   Finishes : Move
-  Pledges : (number : ℕ) → (load : Load) → Move
+  Pledges : (load : Load) → Move
   Accepts : Move
   Drops : Move
 
 abbrev pub given : Offer → Offer
 given NoOffer = NoOffer
-given (Open n load) = Given n load.carried.id load.queue
-given (Given n id queue) = Given n id queue
-
-abbrev pub closed_by : Pledge → ℕ → ℕ
-closed_by NoPledge closed = closed
-closed_by (Pledged n load) closed = n
+given (Open load) = Given load.carried.id load.queue
+given (Given id queue) = Given id queue
 
 abbrev pub moved : Pair → Move → Pair
-moved p Stays = record { offer = p.offer; next = p.next; pledge = p.pledge; closed = p.closed }
-moved p (Offers load) = record { offer = Open p.next load; next = p.next + 1; pledge = p.pledge; closed = p.closed }
-moved p Withdraws = record { offer = NoOffer; next = p.next; pledge = p.pledge; closed = p.closed }
-moved p Commits = record { offer = given p.offer; next = p.next; pledge = p.pledge; closed = p.closed }
-moved p Finishes = record { offer = NoOffer; next = p.next; pledge = p.pledge; closed = p.closed }
-moved p (Pledges n load) = record { offer = p.offer; next = p.next; pledge = Pledged n load; closed = n - 1 }
-moved p Accepts = record { offer = p.offer; next = p.next; pledge = NoPledge; closed = closed_by p.pledge p.closed }
-moved p Drops = record { offer = p.offer; next = p.next; pledge = NoPledge; closed = closed_by p.pledge p.closed }
+moved p Stays = record { offer = p.offer; numbered = p.numbered; pledge = p.pledge; closed = p.closed }
+moved p (Offers load) = record { offer = Open load; numbered = true; pledge = p.pledge; closed = p.closed }
+moved p Withdraws = record { offer = NoOffer; numbered = p.numbered; pledge = p.pledge; closed = p.closed }
+moved p Commits = record { offer = given p.offer; numbered = p.numbered; pledge = p.pledge; closed = p.closed }
+moved p Finishes = record { offer = NoOffer; numbered = p.numbered; pledge = p.pledge; closed = p.closed }
+moved p (Pledges load) = record { offer = p.offer; numbered = p.numbered; pledge = Pledged load; closed = p.closed }
+moved p Accepts = record { offer = p.offer; numbered = p.numbered; pledge = NoPledge; closed = true }
+moved p Drops = record { offer = p.offer; numbered = p.numbered; pledge = NoPledge; closed = true }
 
 -- when a move may come
 
-abbrev pub MayCommit : Offer → Pledge → ℕ → Type 0
+abbrev pub MayCommit : Offer → Pledge → Bool → Type 0
 MayCommit NoOffer q closed = ⊥
-MayCommit (Open n load) q closed = IsTaken q closed n
-MayCommit (Given n id queue) q closed = ⊥
+MayCommit (Open load) q closed = IsTaken q closed
+MayCommit (Given id queue) q closed = ⊥
 
-abbrev pub MayFinish : Offer → ℕ → Type 0
+abbrev pub MayFinish : Offer → Bool → Type 0
 MayFinish NoOffer closed = ⊥
-MayFinish (Open n load) closed = ⊥
-MayFinish (Given n id queue) closed = n ≤ closed
+MayFinish (Open load) closed = ⊥
+MayFinish (Given id queue) closed = closed ≡ true
 
 abbrev pub MayWithdraw : Offer → Type 0
 MayWithdraw NoOffer = ⊥
-MayWithdraw (Open n load) = Unit {0}
-MayWithdraw (Given n id queue) = ⊥
+MayWithdraw (Open load) = Unit {0}
+MayWithdraw (Given id queue) = ⊥
 
-abbrev pub MayOffer : Offer → Type 0
-MayOffer NoOffer = Unit {0}
-MayOffer (Open n load) = ⊥
-MayOffer (Given n id queue) = ⊥
-
-abbrev pub MayAccept : Pledge → Offer → ℕ → Type 0
+abbrev pub MayAccept : Pledge → Offer → Bool → Type 0
 MayAccept NoPledge offer closed = ⊥
-MayAccept (Pledged n load) offer closed = IsGiven offer closed n
-
-abbrev pub MayDrop : Pledge → Offer → Type 0
-MayDrop NoPledge offer = ⊥
-MayDrop (Pledged n load) offer = IsNoOffer offer n
+MayAccept (Pledged load) offer closed = IsGiven offer closed
 
 abbrev pub May : Pair → Move → Type 0
 May p Stays = Unit {0}
-May p (Offers load) = MayOffer p.offer
+May p (Offers load) = IsNoOffer p.offer × (p.numbered ≡ false)
 May p Withdraws = MayWithdraw p.offer
 May p Commits = MayCommit p.offer p.pledge p.closed
 May p Finishes = MayFinish p.offer p.closed
-May p (Pledges n load) = (p.closed < n) × (n < p.next) × IsNoPledge p.pledge n × IsOf p.offer n load
+May p (Pledges load) = (p.closed ≡ false) × (p.numbered ≡ true) × IsNoPledge p.pledge × IsOf p.offer load
 May p Accepts = MayAccept p.pledge p.offer p.closed
-May p Drops = MayDrop p.pledge p.offer
+May p Drops = IsNoOffer p.offer × (p.numbered ≡ true)
 
-abbrev pub pair : Offer → Pledge → ℕ → ℕ → Pair
-pair offer pledge next closed = record { offer = offer; next = next; pledge = pledge; closed = closed }
+abbrev pub pair : Offer → Bool → Pledge → Bool → Pair
+pair offer numbered pledge closed = record { offer = offer; numbered = numbered; pledge = pledge; closed = closed }
+
+-- the same with another handover and promise
+abbrev with_parts : Offer → Pledge → Pair → Pair
+with_parts o q p = pair o p.numbered q p.closed
+
+pub no_both : (b : Bool) → b ≡ true → b ≡ false → ⊥
+no_both b t f = true≢false (sym t ∙ f)
 
 -- each move keeps what holds of a pair
 pub moved-ok : (p : Pair) (m : Move) → Ok p → May p m → Ok (moved p m)
-moved-ok p m ok may = by p.offer p.pledge p.next p.closed ok may
+moved-ok p m ok may = by p.offer p.pledge m ok may
   where
-    by : (h : Offer) (q : Pledge) (next closed : ℕ) → Ok (pair h q next closed) → May (pair h q next closed) m → Ok (moved (pair h q next closed) m)
-    by h q next closed ok may = record { below = grind arith; offer = grind arith; pledge = grind arith }
+    none : (q : Pledge) → PledgeOk q p.numbered p.closed → p.numbered ≡ false → IsNoPledge q
+    none NoPledge k n = tt
+    none (Pledged load) k n = no_both p.numbered k.0 n
+
+    shut : (p.closed ≡ true → p.numbered ≡ true) → p.numbered ≡ false → (c : Bool) → p.closed ≡ c → c ≡ false
+    shut k n true e = absurd (no_both p.numbered (k e) n)
+    shut k n false e = refl
+
+    agrees : (q : Pledge) (load : Load) → IsNoPledge q → Agrees q load
+    agrees NoPledge load k = tt
+    agrees (Pledged other) load k = absurd k
+
+    promised : (q : Pledge) (load : Load) → Agrees q load → IsPromisedAs q load.carried.id load.queue
+    promised NoPledge load k = tt
+    promised (Pledged other) load k = (λ j. (k j).carried.id, λ j. (k j).queue)
+
+    by : (o : Offer) (q : Pledge) (m : Move) → Ok (with_parts o q p) → May (with_parts o q p) m → Ok (moved (with_parts o q p) m)
+    by o q Stays ok may = ok
+    by NoOffer q (Offers load) ok may =
+        let no = none q ok.pledge may.1 in
+        let still = shut ok.closed may.1 p.closed refl in
+        record { offer = (refl, still, agrees q load no); pledge = pledge q no; closed = λ e. refl }
+      where
+        pledge : (q : Pledge) → IsNoPledge q → PledgeOk q true p.closed
+        pledge NoPledge k = tt
+        pledge (Pledged other) k = absurd k
+    by (Open other) q (Offers load) ok may = absurd may.0
+    by (Given id queue) q (Offers load) ok may = absurd may.0
+    by NoOffer q Withdraws ok may = absurd may
+    by (Open load) q Withdraws ok may = record { offer = tt; pledge = ok.pledge; closed = ok.closed }
+    by (Given id queue) q Withdraws ok may = absurd may
+    by NoOffer q Commits ok may = absurd may
+    by (Open load) q Commits ok may = record { offer = (ok.offer.0, may, promised q load ok.offer.2); pledge = ok.pledge; closed = ok.closed }
+    by (Given id queue) q Commits ok may = absurd may
+    by NoOffer q Finishes ok may = absurd may
+    by (Open load) q Finishes ok may = absurd may
+    by (Given id queue) q Finishes ok may = record { offer = tt; pledge = ok.pledge; closed = ok.closed }
+    by NoOffer NoPledge (Pledges load) ok may = record { offer = tt; pledge = (may.1, may.0); closed = ok.closed }
+    by (Open other) NoPledge (Pledges load) ok may = record { offer = (ok.offer.0, ok.offer.1, may.3); pledge = (may.1, may.0); closed = ok.closed }
+    by (Given id queue) NoPledge (Pledges load) ok may = absurd (no_both p.closed ok.offer.1 may.0)
+    by o (Pledged other) (Pledges load) ok may = absurd may.2
+    by o NoPledge Accepts ok may = absurd may
+    by NoOffer (Pledged load) Accepts ok may = absurd (no_both p.closed may ok.pledge.1)
+    by (Open other) (Pledged load) Accepts ok may = absurd (no_both p.closed may ok.pledge.1)
+    by (Given id queue) (Pledged load) Accepts ok may = record { offer = (ok.offer.0, refl, tt); pledge = tt; closed = λ e. ok.pledge.0 }
+    by NoOffer q Drops ok may = record { offer = tt; pledge = tt; closed = λ e. may.1 }
+    by (Open load) q Drops ok may = absurd may.0
+    by (Given id queue) q Drops ok may = absurd may.0
 
 -- each move keeps what holds of a message
 pub moved-holds : (p : Pair) (m : Move) (w : Word) → Ok p → May p m → Holds p w → Holds (moved p m) w
-moved-holds p m w ok may holds = by p.offer p.pledge p.next p.closed ok may holds
+moved-holds p m w ok may holds = by p.offer p.pledge m w ok may holds
   where
-    by : (h : Offer) (q : Pledge) (next closed : ℕ) → Ok (pair h q next closed) → May (pair h q next closed) m → Holds (pair h q next closed) w
-        → Holds (moved (pair h q next closed) m) w
-    by h q next closed ok may holds = grind arith
+    -- the number stays given
+    counted : (o : Offer) (q : Pledge) (m : Move) → p.numbered ≡ true → (moved (with_parts o q p) m).numbered ≡ true
+    counted o q Stays k = k
+    counted o q (Offers load) k = refl
+    counted o q Withdraws k = k
+    counted o q Commits k = k
+    counted o q Finishes k = k
+    counted o q (Pledges load) k = k
+    counted o q Accepts k = k
+    counted o q Drops k = k
+
+    -- a closed number stays closed
+    shut : (o : Offer) (q : Pledge) (m : Move) → p.closed ≡ true → (moved (with_parts o q p) m).closed ≡ true
+    shut o q Stays k = k
+    shut o q (Offers load) k = k
+    shut o q Withdraws k = k
+    shut o q Commits k = k
+    shut o q Finishes k = k
+    shut o q (Pledges load) k = k
+    shut o q Accepts k = refl
+    shut o q Drops k = refl
+
+    taken : (o : Offer) (q : Pledge) (m : Move) → IsTaken q p.closed → IsTaken (moved (with_parts o q p) m).pledge (moved (with_parts o q p) m).closed
+    taken o q Stays k = k
+    taken o q (Offers load) k = k
+    taken o q Withdraws k = k
+    taken o q Commits k = k
+    taken o q Finishes k = k
+    taken o q (Pledges load) k = tt
+    taken o q Accepts k = refl
+    taken o q Drops k = refl
+
+    open_of : (o : Offer) (q : Pledge) (m : Move) (load : Load) → May (with_parts o q p) m → p.numbered ≡ true → IsOf o load → IsOf (moved (with_parts o q p) m).offer load
+    open_of o q Stays load may n k = k
+    open_of o q (Offers other) load may n k = absurd (no_both p.numbered n may.1)
+    open_of o q Withdraws load may n k = tt
+    open_of NoOffer q Commits load may n k = tt
+    open_of (Open other) q Commits load may n k = tt
+    open_of (Given id queue) q Commits load may n k = tt
+    open_of o q Finishes load may n k = tt
+    open_of o q (Pledges other) load may n k = k
+    open_of o q Accepts load may n k = k
+    open_of o q Drops load may n k = k
+
+    given_or_closed : (o : Offer) (q : Pledge) (m : Move) → Ok (with_parts o q p) → May (with_parts o q p) m → p.numbered ≡ true → IsGiven o p.closed
+        → IsGiven (moved (with_parts o q p) m).offer (moved (with_parts o q p) m).closed
+    given_or_closed o q Stays ok may n k = k
+    given_or_closed o q (Offers load) ok may n k = absurd (no_both p.numbered n may.1)
+    given_or_closed NoOffer q Withdraws ok may n k = absurd may
+    given_or_closed (Open load) q Withdraws ok may n k = k
+    given_or_closed (Given id queue) q Withdraws ok may n k = absurd may
+    given_or_closed NoOffer q Commits ok may n k = absurd may
+    given_or_closed (Open load) q Commits ok may n k = tt
+    given_or_closed (Given id queue) q Commits ok may n k = absurd may
+    given_or_closed NoOffer q Finishes ok may n k = absurd may
+    given_or_closed (Open load) q Finishes ok may n k = absurd may
+    given_or_closed (Given id queue) q Finishes ok may n k = may
+    given_or_closed o q (Pledges load) ok may n k = k
+    given_or_closed NoOffer q Accepts ok may n k = refl
+    given_or_closed (Open load) q Accepts ok may n k = refl
+    given_or_closed (Given id queue) q Accepts ok may n k = tt
+    given_or_closed NoOffer q Drops ok may n k = refl
+    given_or_closed (Open load) q Drops ok may n k = refl
+    given_or_closed (Given id queue) q Drops ok may n k = tt
+
+    no_offer : (o : Offer) (q : Pledge) (m : Move) → May (with_parts o q p) m → p.numbered ≡ true → IsNoOffer o → IsNoOffer (moved (with_parts o q p) m).offer
+    no_offer o q Stays may n k = k
+    no_offer o q (Offers load) may n k = no_both p.numbered n may.1
+    no_offer o q Withdraws may n k = tt
+    no_offer NoOffer q Commits may n k = tt
+    no_offer (Open load) q Commits may n k = absurd k
+    no_offer (Given id queue) q Commits may n k = absurd k
+    no_offer o q Finishes may n k = tt
+    no_offer o q (Pledges load) may n k = k
+    no_offer o q Accepts may n k = k
+    no_offer o q Drops may n k = k
+
+    by : (o : Offer) (q : Pledge) (m : Move) (w : Word) → Ok (with_parts o q p) → May (with_parts o q p) m → Holds (with_parts o q p) w → Holds (moved (with_parts o q p) m) w
+    by o q m (OfferOf load) ok may h = (counted o q m h.0, open_of o q m load may h.0 h.1)
+    by o q m ReadyFor ok may h = (counted o q m h.0, taken o q m h.1)
+    by o q m RefusedOf ok may h = (counted o q m h.0, tt)
+    by o q m CommitOf ok may h = (counted o q m h.0, given_or_closed o q m ok may h.0 h.1)
+    by o q m DoneOf ok may h = (counted o q m h.0, shut o q m h.1)
+    by o q m AbortOf ok may h = (counted o q m h.0, no_offer o q m may h.0 h.1)

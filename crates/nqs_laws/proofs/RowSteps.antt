@@ -26,7 +26,7 @@ use Rattle.nqs_types.specs.declared.edit.Edit.{Edit}
 use Rattle.nqs_types.specs.declared.edit.Edit.TheVariants.{Conf, Limits as LimitsOf, Access as AccessOf, Devices as DevicesOf, Rows as RowsOf}
 use Rattle.nqs_types.specs.declared.change.Change.{Change}
 use Rattle.nqs_types.specs.declared.change.Change.TheVariants.{Site, Submitted, Deleted, Doomed, Started, Ended, Unlaunched, Boot, Edited, HandOpened}
-use Rattle.nqs_types.specs.declared.change.Change.TheVariants.{HandCommitted, HandRefused, HandsSilent, HandDone, Promised, Accepted, Dropped, MovedLocal}
+use Rattle.nqs_types.specs.declared.change.Change.TheVariants.{HandCommitted, HandRefused, HandsSilent, HandDone, OldPromised, Promised, Accepted, Dropped, MovedLocal}
 use Rattle.nqs_types.specs.declared.change.Change.TheVariants.{RefusedLocal, HeldFar, StageGot, StageGone, FileGone}
 use Rattle.nqs_types.specs.declared.table_row.NetState.{NetState}
 use Rattle.nqs_state.specs.Least.{runs_now}
@@ -36,7 +36,7 @@ use Rattle.nqs_rules.specs.Find.{peer_number, has_queue, find_row, find_hand, fi
 use Rattle.nqs_rules.specs.Causes.{Cause}
 use Rattle.nqs_rules.specs.Conf.{row_in, is_queued_in}
 use Rattle.nqs_rules.specs.Rows.{hold_causes, release_causes, move_causes, held_row, released_row, moved_row, with_priority, arrivals_used}
-use Rattle.nqs_rules.specs.Routing.{is_hand_to, held_where, all_refused, with_refusal, refusal_noted, dests_for}
+use Rattle.nqs_rules.specs.Routing.{has_room_for_hand, is_within_window, held_where, all_refused, with_refusal, refusal_noted, dests_for}
 use Rattle.nqs_rules.specs.Applied.{next_id, may_start_again, lost_row, booted_row, doomed_row, started_row, routing_row, requeued_row, moved_local}
 use Rattle.nqs_rules.specs.Applied.{local_refused, held_far, hand_silent}
 use Rattle.nqs_rules.specs.Fits.{fits, edit_fits, row_passes, is_idle, may_hop, is_next, device_fits, hand_passes, is_offered_hand}
@@ -427,7 +427,7 @@ module _ (h : HostId) where
           (
             ready_seen s order calm x r found (and_parts (is_ready r) (nat_lt r.hops 32)
                 (passing s order calm x r found may_hop id (each (row_passes (may_hop {E = List ℕ}) id s)
-                (passes (is_next number) (find_peer peer s) ∷ not (list_any (is_hand_to peer) s.hands) ∷ []) fit).0 e)).0,
+                (passes (is_next number) (find_peer peer s) ∷ has_room_for_hand peer s ∷ passes (is_within_window peer s) (find_peer peer s) ∷ []) fit).0 e)).0,
             refl,
           ),
         ))
@@ -486,7 +486,8 @@ module _ (h : HostId) where
           ),
         ))
     row_step (HandDone peer number) fit inside = inl refl
-    row_step (Promised peer number queue k script) fit inside = inl refl
+    row_step (OldPromised peer number queue k script) fit inside = inl refl
+    row_step (Promised peer number low queue k script) fit inside = inl refl
     row_step (Dropped peer number) fit inside = inl refl
     row_step (StageGot peer number path bytes) fit inside = inl refl
     row_step (StageGone peer number) fit inside = inl refl

@@ -1,5 +1,5 @@
 -- What is true of each row and each promised row, and stays so under each change.
-use Rattle.std.proofs.Common.{◌≡◌, ℕ, ◌+◌, Bool, true, false, not, ◌&&◌, List, [], ◌∷◌, ◌++◌, filter, Option, None, Some, true≢false, refl, sym, subst}
+use Rattle.std.proofs.Common.{◌≡◌, ℕ, ◌+◌, Bool, true, false, not, ◌&&◌, List, [], ◌∷◌, ◌++◌, Option, None, Some, true≢false, refl, sym, subst}
 use Rattle.std.proofs.Common.{if◌then◌else◌}
 use Rattle.std.specs.Option.{IfSome}
 use Rattle.std.specs.List.{list_all}
@@ -7,6 +7,7 @@ use Rattle.nqs_base.specs.Same.{name_eq}
 use Rattle.nqs_state.specs.State.{Plain}
 use Rattle.nqs_base_tables.specs.Table.{change_first}
 use Rattle.nqs_state.specs.Keys.{is_row, is_promise}
+use Rattle.nqs_types.specs.declared.ids.HostId.{HostId}
 use Rattle.nqs_types.specs.declared.ids.PeerNumber.{PeerNumber}
 use Rattle.nqs_types.specs.declared.ids.RequestId.{RequestId}
 use Rattle.nqs_types.specs.declared.ids.Dest.{Dest}
@@ -26,7 +27,7 @@ use Rattle.nqs_types.specs.declared.edit.Edit.{Edit}
 use Rattle.nqs_types.specs.declared.edit.Edit.TheVariants.{Conf, Limits as LimitsOf, Access as AccessOf, Devices as DevicesOf, Rows as RowsOf}
 use Rattle.nqs_types.specs.declared.change.Change.{Change}
 use Rattle.nqs_types.specs.declared.change.Change.TheVariants.{Site, Submitted, Deleted, Doomed, Started, Ended, Unlaunched, Boot, Edited, HandOpened}
-use Rattle.nqs_types.specs.declared.change.Change.TheVariants.{HandCommitted, HandRefused, HandsSilent, HandDone, Promised, Accepted, Dropped, MovedLocal}
+use Rattle.nqs_types.specs.declared.change.Change.TheVariants.{HandCommitted, HandRefused, HandsSilent, HandDone, OldPromised, Promised, Accepted, Dropped, MovedLocal}
 use Rattle.nqs_types.specs.declared.change.Change.TheVariants.{RefusedLocal, HeldFar, StageGot, StageGone, FileGone}
 use Rattle.nqs_rules.specs.Tests.{is_running}
 use Rattle.nqs_rules.specs.Find.{peer_number, has_row, find_hand, find_promise, meant_request}
@@ -38,7 +39,7 @@ use Rattle.nqs_rules.specs.Rows.{rows_applied, change_meant, next_arrival, doome
 use Rattle.nqs_rules.specs.Routing.{held_where, all_refused, with_refusal, refusal_noted, dests_for}
 use Rattle.nqs_rules.specs.Applied.{applied, edit_applied, access_applied, new_row, first_carried, next_id, may_start_again, lost_row, booted_row, doomed_row}
 use Rattle.nqs_rules.specs.Applied.{started_row, routing_row, requeued_row, moved_local, local_refused, held_far, hand_committed, hand_refused, hand_silent}
-use Rattle.nqs_rules.specs.Applied.{hands_silent, drop_promise, add_promised, accepted, is_promise_of}
+use Rattle.nqs_rules.specs.Applied.{hands_silent, drop_promise, add_promised, accepted, is_outlived, promises_from}
 use Rattle.nqs_rules.specs.Fits.{fits}
 use Rattle.nqs_rules.proofs.ListFacts.{list_all-changed, list_all-found}
 use Rattle.nqs_rules.proofs.KeyFacts.{all-added}
@@ -79,7 +80,8 @@ doomed_stays q r = by (is_running r.state) (name_eq q r.queue)
 -- the new row of a change passes
 abbrev pub NewPasses : (PlainRow → Bool) → Change (List ℕ) → Plain → Type 0
 NewPasses t (Submitted queue job script) s = t (new_row (first_carried (next_id s) job) queue (s.arrivals + 1) script) ≡ true
-NewPasses t (Promised peer number queue c script) s = t (new_row c queue (s.arrivals + 1) script) ≡ true
+NewPasses t (OldPromised peer number queue c script) s = t (new_row c queue (s.arrivals + 1) script) ≡ true
+NewPasses t (Promised peer number low queue c script) s = t (new_row c queue (s.arrivals + 1) script) ≡ true
 NewPasses t c s = Unit {0}
 
 module _ (t : PlainRow → Bool) where
@@ -200,6 +202,11 @@ module _ (t : PlainRow → Bool) where
             (is_promise (peer_number n.peer n.number)) s.promises p h.promises e) left in
             record { rows = made.rows; promises = made.promises }
 
+    promised_pass : (peer : HostId) (low : ℕ) (s : Plain) → AllPass s → (p : Promise (List ℕ)) → t p.row ≡ true
+        → list_all (λ (q : Promise (List ℕ)). t q.row) (promises_from peer low s.promises ++ p ∷ []) ≡ true
+    promised_pass peer low s h p new = all-added (λ (q : Promise (List ℕ)). t q.row) (promises_from peer low s.promises) p
+        (part_all (λ (q : Promise (List ℕ)). t q.row) (filter_part (λ q. not (is_outlived peer low q)) s.promises) h.promises) new
+
     pub change_passes : (c : Change (List ℕ)) (s : Plain) → fits c s ≡ true → NewPasses t c s → AllPass s → AllPass (applied c s)
     change_passes (Site me site) s fit new h = absurd (true≢false (sym fit))
     change_passes (Submitted queue job script) s fit new h = record { rows = all-added t s.rows _ h.rows new; promises = h.promises }
@@ -229,10 +236,13 @@ module _ (t : PlainRow → Bool) where
     change_passes (HandRefused peer number refusal) s fit new h = refused_pass (peer_number peer number) refusal (find_hand peer number s) s h
     change_passes (HandsSilent until ns) s fit new h = silents_pass until ns s h
     change_passes (HandDone peer number) s fit new h = record { rows = h.rows; promises = h.promises }
-    change_passes (Promised peer number queue c script) s fit new h = record {
+    change_passes (OldPromised peer number queue c script) s fit new h = record {
       rows = h.rows;
-      promises = all-added (λ (p : Promise (List ℕ)). t p.row) (filter (λ p. not (is_promise_of peer p)) s.promises) _
-          (part_all (λ (p : Promise (List ℕ)). t p.row) (filter_part (λ p. not (is_promise_of peer p)) s.promises) h.promises) new;
+      promises = promised_pass peer number s h _ new;
+    }
+    change_passes (Promised peer number low queue c script) s fit new h = record {
+      rows = h.rows;
+      promises = promised_pass peer low s h _ new;
     }
     change_passes (Accepted peer number) s fit new h = accepted_pass (peer_number peer number) s h
     change_passes (Dropped peer number) s fit new h = record {

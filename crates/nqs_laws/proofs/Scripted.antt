@@ -104,7 +104,7 @@ abbrev is_scripted : Scripts → PlainRow → Bool
 is_scripted f r = expects (f r.id) r.script
 
 abbrev is_scripted_body : Scripts → Body → Bool
-is_scripted_body f (body.Offer n queue c script) = expects (f c.id) script
+is_scripted_body f (body.Offer n low queue c script) = expects (f c.id) script
 is_scripted_body f b = true
 
 abbrev is_scripted_message : Scripts → Message → Bool
@@ -142,7 +142,7 @@ module _ (f g : Scripts) (more : (x : Request) (a : List ℕ) → f x ≡ Some a
   messages_more xs k = list_all-weaker (is_scripted_message f) (is_scripted_message g) (λ x e. by x.body e) xs k
     where
       by : (b : Body) → is_scripted_body f b ≡ true → is_scripted_body g b ≡ true
-      by (body.Offer n queue c script) e = expects_more c.id script e
+      by (body.Offer n low queue c script) e = expects_more c.id script e
       by b e = refl
 
 module _ (site : List (List ℕ)) (first : List Plain) (m : Moment) (sound : IsSound site m) (k : IsScripted first m) (h : HostId) (s : Plain)
@@ -197,7 +197,7 @@ module _ (site : List (List ℕ)) (first : List Plain) (m : Moment) (sound : IsS
       of None e = rows_more before now more s (k.hosts h.0 s there)
       of (Some c) e =
           change_passes (is_scripted now) (scripted_kept now) c s (suits c (is ∙ e)).fit
-          (row_passes (is_scripted now) h s m.packets (λ x sent n queue d script f.
+          (row_passes (is_scripted now) h s m.packets (λ x sent n low queue d script f.
           (let all = all_get (is_scripted_message now) m.packets sent.0 x (messages_more before now more m.packets k.packets) sent.1 in
           ap (is_scripted_body now) (sym f) ∙ all)) c
           (λ queue job script f. expects_it (now (next_id s)) script (new_script queue job script (e ∙ ap Some f))) (sound.hosts h.0 s there).order way
@@ -267,7 +267,7 @@ sent_scripted f t rows (x ∷ xs) all = and_from (is_scripted_message f x) (list
     (sent_scripted f t rows xs all.1)
   where
     by : (b : Body) → IsOfRow t b → is_scripted_body f b ≡ true
-    by (body.Offer n queue c script) q = (λ j. expects (f (q.3 j).id) (q.4 j)) ∙ list_all-found (is_scripted f) (is_row q.0) t.rows q.1 rows.rows q.2
+    by (body.Offer n low queue c script) q = (λ j. expects (f (q.3 j).id) (q.4 j)) ∙ list_all-found (is_scripted f) (is_row q.0) t.rows q.1 rows.rows q.2
     by b q = refl
 
 seen_more : (first : List Plain) (m : Moment) (x : Seen) (y : Request) → submitted_script y first (m.notes ++ Saw x ∷ []) ≡ submitted_script y first m.notes
@@ -311,7 +311,7 @@ run_scripted site few acts sane = record {
       ∙ expected _ r.script (list_all-found _ (is_row x) s.rows r (q.hosts h.0 s at).rows found));
   promises = λ h s at from number p found. expected _ p.row.script (list_all-found _ (is_promise (peer_number from number)) s.promises p
       (q.hosts h.0 s at).promises found);
-  offers = λ m number queue c script sent e. (let at = packet_sent sent.0 (run acts (new_world site)).world m sent.1 in
+  offers = λ m number low queue c script sent e. (let at = packet_sent sent.0 (run acts (new_world site)).world m sent.1 in
       expected _ script (ap (is_scripted_body (λ x. submitted_script x (states_of (new_world site)) (history acts (new_world site)))) (sym e)
       ∙ all_get _ (run acts (new_world site)).world.packets at.0 m q.packets at.1));
 }

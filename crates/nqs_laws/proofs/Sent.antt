@@ -1,7 +1,7 @@
 -- Every message that a host sends is within its limits, and so is what it stores.
 use Rattle.std.proofs.Common.{◌≡◌, ℕ, ◌+◌, ◌<◌, Bool, true, false, not, ◌&&◌, ◌||◌, ◌==◌, nat_lt, nat_le, List, [], ◌∷◌, ◌++◌, map, filter, length, slice_get}
 use Rattle.std.proofs.Common.{Option, None, Some, Result, Ok, Err, true≢false, refl, sym, ap, subst, ◌∙◌, arith, if◌then◌else◌}
-use Rattle.std.proofs.lemmas.Bool.{and_parts, and_from, leb-true, le-leb, ltb-true, lt-ltb, eqb-true, eq-eqb}
+use Rattle.std.proofs.lemmas.Bool.{and_parts, and_from, or_right, leb-true, le-leb, ltb-true, lt-ltb, eqb-true, eq-eqb}
 use Rattle.std.proofs.lemmas.Option.{same_Some, none-some}
 use Rattle.std.proofs.lemmas.List.{length-append}
 use Rattle.std.proofs.lemmas.List.Folds.{list_all-append}
@@ -51,14 +51,14 @@ use Rattle.nqs_rules.specs.Find.{peer_number, find_queue, find_row, meant_row, f
 use Rattle.nqs_rules.specs.Access.{rank, may_command}
 use Rattle.nqs_rules.specs.Rows.{queue_meant, submit_causes, delete_causes}
 use Rattle.nqs_rules.specs.Fits.{fits, row_passes, may_hop, is_next, edit_causes, is_site_host, is_open_number}
-use Rattle.nqs_rules.specs.Routing.{is_hand_to}
+use Rattle.nqs_rules.specs.Routing.{is_hand_to, low, has_room_for_hand, is_within_window}
 use Rattle.nqs_rules.specs.Sane.{is_of_site, is_short_script, is_short_output, is_sane_carried, is_sane_id, is_sane_job, is_offer_refusal, is_sane_command}
-use Rattle.nqs_rules.specs.Sane.{is_sane_body, is_sane_message, is_sane_event}
+use Rattle.nqs_rules.specs.Sane.{is_sane_low, is_sane_body, is_sane_message, is_sane_event}
 use Rattle.nqs_rules.specs.Stepped.{Stepped, Pending, quiet, says, makes, message, ready, shown, part_bytes, stored_parts}
 use Rattle.nqs_rules.specs.Handover.{closes, was_given, carried_of, offer, send_commit, send_abort, send_ready, send_done, send_refused, send_inquire}
 use Rattle.nqs_rules.specs.Handover.{opened_with, open_hand, offer_causes, offer_by, on_offer, ready_phase, ready_with, on_ready, refused_phase, refused_with}
 use Rattle.nqs_rules.specs.Handover.{on_refused, on_commit, done_phase, done_with, on_done, on_abort, is_silent, silent_hands, repeat_offer, repeat_phase}
-use Rattle.nqs_rules.specs.Handover.{repeat_hand, repeated_hands, inquiries, silence}
+use Rattle.nqs_rules.specs.Handover.{staying_hands, repeat_hand, repeated_hands, inquiries, silence}
 use Rattle.nqs_rules.specs.Stage.{Part, part_to, parts_of, has_left, numbered, stage_counter, goes_here, first_number, kept_parts, files_written, is_stage_to}
 use Rattle.nqs_rules.specs.Stage.{has_stage_to, stage_sent, parts_sent, on_end, is_got, send_staged, on_stage, is_earlier_stage, send_stage, due_of, on_staged}
 use Rattle.nqs_rules.specs.Stage.{on_written, file_again, stages_from, due_outputs}
@@ -71,18 +71,19 @@ use Rattle.nqs_rules.specs.Step.{ticked, on_allowed, on_message, is_start, ended
 use Rattle.nqs_rules.specs.Text.{stat_lines}
 use Rattle.nqs_rules.specs.World.{sent_by, body_number}
 use Rattle.nqs_rules.specs.InOrder.{IsInOrder, is_row_right, is_promise_right, is_hand_right, is_hand_given, is_stage_right, is_stage_given}
-use Rattle.nqs_rules.specs.InOrder.{is_given, is_peer_right, is_routing_row}
+use Rattle.nqs_rules.specs.InOrder.{is_given, is_peer_right, is_routing_row, ascends_from}
 use Rattle.nqs_rules.proofs.Chains.{each, chained, implied}
 use Rattle.nqs_rules.proofs.ListFacts.{list_all-found, list_all-weaker, found_again}
 use Rattle.nqs_rules.proofs.KeyFacts.{all_get, all-both, place_below}
 use Rattle.nqs_rules.proofs.FindKept.{all-mapped}
-use Rattle.nqs_rules.proofs.Sublists.{part_all, without_part}
+use Rattle.nqs_rules.proofs.Sublists.{part_all, without_part, filter_part}
 use Rattle.nqs_rules.proofs.StateFacts.{sites_are, keys_are}
 use Rattle.nqs_rules.proofs.RowFacts.{row_is, promise_is, same_id}
 use Rattle.nqs_rules.proofs.RowsOrder.{hand_is}
 use Rattle.nqs_rules.proofs.RowChanges.{waits, few_hops, routing_is, ready_queued}
 use Rattle.nqs_types.specs.Ids.{id_eq, id_exact}
 use Rattle.nqs_rules.specs.Picked.{PlainRow}
+use Rattle.nqs_laws.proofs.LowFacts.{is_above, low_above, low_next}
 use Rattle.nqs_laws.specs.Words.{body_passes}
 use Rattle.nqs_laws.proofs.Frame.{sent_in}
 use Rattle.nqs_laws.proofs.RowTests.{AllPass}
@@ -321,14 +322,16 @@ module _ (s : Plain) (h : IsInOrder s) where
           id.0,
         )
 
-    offers_fine : (peer : HostId) (n : ℕ) (queue : List ℕ) (r : PlainRow) → is_of_site hosts peer ≡ true → nat_le 1 n ≡ true → is_row_right s r ≡ true
+    offers_fine : (peer : HostId) (n least : ℕ) (queue : List ℕ) (r : PlainRow) → is_of_site hosts peer ≡ true → nat_le 1 n ≡ true
+        → is_sane_low least n ≡ true → is_row_right s r ≡ true
         → is_running r.state ≡ false → nat_lt r.hops 32 ≡ true → is_short_script r.script ≡ true → test (carried_of r) ≡ true
-        → is_fine (offer s.me peer n queue r) ≡ true
-    offers_fine peer n queue r site some right idle hops short fine =
+        → is_fine (offer s.me peer n least queue r) ≡ true
+    offers_fine peer n least queue r site some sane right idle hops short fine =
         let c = carried_fine r right idle hops in
-        let b : Body = body.Offer n queue (carried_of r) r.script in
-        sends peer b (chained (nat_le 1 n) (is_sane_carried (carried_of r) ∷ is_of_site hosts r.id.host ∷ is_short_script r.script ∷ [])
-        (some, (c.0, (c.1, (short, tt))))) fine (near peer n site some)
+        let b : Body = body.Offer n least queue (carried_of r) r.script in
+        sends peer b (chained (nat_le 1 n)
+        (is_sane_low least n ∷ is_sane_carried (carried_of r) ∷ is_of_site hosts r.id.host ∷ is_short_script r.script ∷ [])
+        (some, (sane, (c.0, (c.1, (short, tt)))))) fine (near peer n site some)
 
     row_right_at : (id : RequestId) (r : PlainRow) → find_row id s ≡ Some r
         → (is_row_right s r ≡ true) × (is_short_script r.script ≡ true) × (test (carried_of r) ≡ true)
@@ -375,6 +378,16 @@ module _ (s : Plain) (h : IsInOrder s) where
 
     -- a tick
 
+    -- each number of a hand is 1 at least, and so is the low
+    hands_above : (peer : HostId) → list_all (is_above peer 1) s.hands ≡ true
+    hands_above peer = list_all-weaker (is_hand_right s) (is_above peer 1)
+        (λ y right. or_right (not (is_hand_to peer y)) (nat_le 1 y.number) (given_some (λ p. p.next) y.number (find_peer y.peer s) (hand_is s y right).given))
+        s.hands h.hands
+
+    low_sane : (peer : HostId) (n : ℕ) (hands : List Hand) → nat_le 1 n ≡ true → list_all (is_above peer 1) hands ≡ true → is_sane_low (low peer n hands) n ≡ true
+    low_sane peer n hands some above = and_from (nat_le 1 (low peer n hands)) (nat_le (low peer n hands) n)
+        (le-leb 1 (low peer n hands) (low_above peer 1 n hands (leb-true 1 n some) above)) (le-leb (low peer n hands) n (low_next peer n hands))
+
     hand_fine : (now : ℕ) (x : Hand) → is_hand_right s x ≡ true → AreFine (repeat_hand now s x)
     hand_fine now x right = by (is_silent now s x)
       where
@@ -384,19 +397,20 @@ module _ (s : Plain) (h : IsInOrder s) where
         some : nat_le 1 x.number ≡ true
         some = given_some (λ p. p.next) x.number (find_peer x.peer s) (hand_is s x right).given
 
-        again : (o : Option PlainRow) → find_row x.id s ≡ o → passes is_routing_row o ≡ true → AreFine (repeat_offer s x o)
+        again : (o : Option PlainRow) → find_row x.id s ≡ o → passes is_routing_row o ≡ true → AreFine (repeat_offer now s x o)
         again None found routes = refl
         again (Some r) found routes =
             let k = row_right_at x.id r found in
-            one (offer s.me x.peer x.number x.queue r)
-            (offers_fine x.peer x.number x.queue r site some k.0 (ap is_running (routing_is r.state routes)) (few_hops r routes (row_is s r k.0).hop) k.1 k.2)
+            one (offer s.me x.peer x.number (low x.peer x.number (staying_hands now s)) x.queue r)
+            (offers_fine x.peer x.number (low x.peer x.number (staying_hands now s)) x.queue r site some (low_sane x.peer x.number (staying_hands now s) some
+            (part_all (is_above x.peer 1) (filter_part (λ y. not (is_silent now s y)) s.hands) (hands_above x.peer))) k.0 (ap is_running (routing_is r.state routes)) (few_hops r routes (row_is s r k.0).hop) k.1 k.2)
 
-        of : (p : Phase) → x.phase ≡ p → AreFine (repeat_phase p s x)
+        of : (p : Phase) → x.phase ≡ p → AreFine (repeat_phase p now s x)
         of Offered e = again (find_row x.id s) refl (implied (is_offered x.phase) (passes is_routing_row (find_row x.id s)) (hand_is s x right).stands
             (ap is_offered e))
         of Committed e = one (send_commit s x.peer x.number) (sends x.peer (body.Commit x.number) refl refl (near x.peer x.number site some))
 
-        by : (b : Bool) → AreFine (if b then [] else repeat_phase x.phase s x)
+        by : (b : Bool) → AreFine (if b then [] else repeat_phase x.phase now s x)
         by true = refl
         by false = of x.phase refl
 
@@ -412,33 +426,33 @@ module _ (s : Plain) (h : IsInOrder s) where
 
     -- messages
 
-    refusal_fine : (peer : HostId) (queue : List ℕ) (c : Carried) (r : Refusal) → first_refusal (offer_causes peer queue c s) ≡ Err r
+    refusal_fine : (peer : HostId) (low : ℕ) (queue : List ℕ) (c : Carried) (r : Refusal) → first_refusal (offer_causes peer low queue c s) ≡ Err r
         → is_offer_refusal (refusal_number r) ≡ true
-    refusal_fine peer queue c r e = refusal_of (λ x. is_offer_refusal (refusal_number x)) (offer_causes peer queue c s) r (of (find_queue queue s) refl) e
+    refusal_fine peer low queue c r e = refusal_of (λ x. is_offer_refusal (refusal_number x)) (offer_causes peer low queue c s) r (of (find_queue queue s) refl) e
       where
         direct : (b : Bool) → not (b && false) ≡ true
         direct true = refl
         direct false = refl
 
         of : (o : Option QueueDef) → find_queue queue s ≡ o → list_all (λ (x : Cause). is_offer_refusal (refusal_number x.refusal) || not x.holds)
-            (offer_causes peer queue c s) ≡ true
+            (offer_causes peer low queue c s) ≡ true
         of None e = rw e refl
         of (Some d) e = rw e (and_from (not (d.pipe_only && false)) true (direct d.pipe_only) refl)
 
-    offer_outputs : (peer : HostId) (n : ℕ) (queue : List ℕ) (c : Carried) (script : List ℕ) → nat_le 1 n ≡ true → goes peer n ≡ true
-        → AreFine (on_offer peer n queue c script s).outputs
-    offer_outputs peer n queue c script some back = by (closes n (find_peer peer s)) (has_promise peer n s)
+    offer_outputs : (peer : HostId) (n low : ℕ) (queue : List ℕ) (c : Carried) (script : List ℕ) → nat_le 1 n ≡ true → goes peer n ≡ true
+        → AreFine (on_offer peer n low queue c script s).outputs
+    offer_outputs peer n low queue c script some back = by (closes n (find_peer peer s)) (has_promise peer n s)
       where
-        made : (o : Result (Unit {0}) Refusal) → first_refusal (offer_causes peer queue c s) ≡ o → AreFine (offer_by o peer n queue c script s).outputs
+        made : (o : Result (Unit {0}) Refusal) → first_refusal (offer_causes peer low queue c s) ≡ o → AreFine (offer_by o peer n low queue c script s).outputs
         made (Err r) e = one (send_refused s peer n (refusal_number r)) (sends peer (body.Refused n (refusal_number r))
-            (and_from (nat_le 1 n) (is_offer_refusal (refusal_number r)) some (refusal_fine peer queue c r e)) refl back)
+            (and_from (nat_le 1 n) (is_offer_refusal (refusal_number r)) some (refusal_fine peer low queue c r e)) refl back)
         made (Ok u) e = one (send_ready s peer n) (sends peer (body.Ready n) refl refl back)
 
         by : (a b : Bool) → AreFine (if a then says (send_done s peer n ∷ []) else
-            (if b then says (send_ready s peer n ∷ []) else offer_by (first_refusal (offer_causes peer queue c s)) peer n queue c script s)).outputs
+            (if b then says (send_ready s peer n ∷ []) else offer_by (first_refusal (offer_causes peer low queue c s)) peer n low queue c script s)).outputs
         by true b = one (send_done s peer n) (sends peer (body.Done n) refl refl back)
         by false true = one (send_ready s peer n) (sends peer (body.Ready n) refl refl back)
-        by false false = made (first_refusal (offer_causes peer queue c s)) refl
+        by false false = made (first_refusal (offer_causes peer low queue c s)) refl
 
     ready_outputs : (peer : HostId) (n : ℕ) → goes peer n ≡ true → AreFine (on_ready peer n s).outputs
     ready_outputs peer n back = of (find_hand peer n s)
@@ -516,8 +530,8 @@ module _ (s : Plain) (h : IsInOrder s) where
         by false = refl
 
     message_outputs : (peer : HostId) (b : Body) → is_sane_body hosts b ≡ true → goes peer (body_number b) ≡ true → AreFine (on_message peer b s).outputs
-    message_outputs peer (body.Offer n queue c script) k back = offer_outputs peer n queue c script
-        (each (nat_le 1 n) (is_sane_carried c ∷ is_of_site hosts c.id.host ∷ is_short_script script ∷ []) k).0 back
+    message_outputs peer (body.Offer n low queue c script) k back = offer_outputs peer n low queue c script
+        (each (nat_le 1 n) (is_sane_low low n ∷ is_sane_carried c ∷ is_of_site hosts c.id.host ∷ is_short_script script ∷ []) k).0 back
     message_outputs peer (body.Ready n) k back = ready_outputs peer n back
     message_outputs peer (body.Refused n refusal) k back = refused_outputs peer n refusal
     message_outputs peer (body.Commit n) k back = commit_outputs peer n back
@@ -638,7 +652,7 @@ module _ (s : Plain) (h : IsInOrder s) where
 
         counter : (o : Option Peer) → (find_peer id.host s ≡ o) → nat_le 1 (stage_counter o) ≡ true
         counter None e = refl
-        counter (Some p) e = (and_parts (nat_le 1 p.next) (nat_le 1 p.stage_next) (all_get is_peer_right s.peers id.host.0 p h.peers e)).1
+        counter (Some p) e = (each (nat_le 1 p.next) (nat_le 1 p.stage_next ∷ ascends_from p.floor p.closed ∷ []) (all_get is_peer_right s.peers id.host.0 p h.peers e)).1.0
 
         sent : (ps : List Part) → list_all is_part_fine ps ≡ true → AreFine (stage_sent s.me id.host (stage_counter (find_peer id.host s)) ps)
         sent [] k = refl
@@ -733,12 +747,15 @@ module _ (s : Plain) (h : IsInOrder s) where
             let fitting = fit (HandOpened dest.host p.next r.id dest.queue now) (sym (ap (λ (y : Stepped (List ℕ)). y.change) e)) in
             let hop : may_hop r ≡ true = ap (passes may_hop) (sym found) ∙
             (each (row_passes (may_hop {E = List ℕ}) r.id s) (passes (is_next p.next) (find_peer dest.host s)
-            ∷ not (list_any (is_hand_to dest.host) s.hands) ∷ []) fitting).0 in
+            ∷ has_room_for_hand dest.host s ∷ passes (is_within_window dest.host s) (find_peer dest.host s) ∷ []) fitting).0 in
+            let some : nat_le 1 p.next ≡ true = (each (nat_le 1 p.next) (nat_le 1 p.stage_next ∷ ascends_from p.floor p.closed ∷ [])
+            (all_get is_peer_right s.peers dest.host.0 p h.peers known)).0 in
+            let least = low dest.host p.next s.hands in
             let k = row_right_at r.id r found in
-            all_good hosts test may goes acks (shown (offer s.me dest.host p.next dest.queue r) ∷ [])
-            (one (offer s.me dest.host p.next dest.queue r)
-            (offers_fine dest.host p.next dest.queue r (known_near dest.host p known) (and_parts (nat_le 1 p.next) (nat_le 1 p.stage_next)
-            (all_get is_peer_right s.peers dest.host.0 p h.peers known)).0 k.0
+            all_good hosts test may goes acks (shown (offer s.me dest.host p.next least dest.queue r) ∷ [])
+            (one (offer s.me dest.host p.next least dest.queue r)
+            (offers_fine dest.host p.next least dest.queue r (known_near dest.host p known) some
+            (low_sane dest.host p.next s.hands some (hands_above dest.host)) k.0
             (ap is_running (ready_queued r (and_parts (is_ready r) (nat_lt r.hops 32) hop).0)) (and_parts (is_ready r) (nat_lt r.hops 32) hop).1 k.1 k.2))
 
         of : Begins now s x → IsGood x
@@ -805,13 +822,13 @@ module _ (s : Plain) (h : IsInOrder s) where
         allowed (command.UnreadWords fault) k = tt
     step_stores (event.Arrived now m) k = of m.body (and_parts (is_of_site hosts m.from) (is_sane_body hosts m.body) k).1
       where
-        offered : (a b : Bool) (o : Result (Unit {0}) Refusal) (n : ℕ) (queue : List ℕ) (c : Carried) (script : List ℕ) → is_short_script script ≡ true
+        offered : (a b : Bool) (o : Result (Unit {0}) Refusal) (n low : ℕ) (queue : List ℕ) (c : Carried) (script : List ℕ) → is_short_script script ≡ true
             → IsShortChange (if a then says (send_done s m.from n ∷ []) else
-            (if b then says (send_ready s m.from n ∷ []) else offer_by o m.from n queue c script s)).change
-        offered true b o n queue c script k = tt
-        offered false true o n queue c script k = tt
-        offered false false (Err r) n queue c script k = tt
-        offered false false (Ok u) n queue c script k = and_from (is_short_script script) true k refl
+            (if b then says (send_ready s m.from n ∷ []) else offer_by o m.from n low queue c script s)).change
+        offered true b o n low queue c script k = tt
+        offered false true o n low queue c script k = tt
+        offered false false (Err r) n low queue c script k = tt
+        offered false false (Ok u) n low queue c script k = and_from (is_short_script script) true k refl
 
         readied : (o : Option Hand) (n : ℕ) → IsShortChange (ready_with o m.from n s).change
         readied None n = missing (was_given n (find_peer m.from s))
@@ -865,9 +882,9 @@ module _ (s : Plain) (h : IsInOrder s) where
         gone false n = tt
 
         of : (b : Body) → is_sane_body hosts b ≡ true → IsShortChange (on_message m.from b s).change
-        of (body.Offer n queue c script) k =
-            offered (closes n (find_peer m.from s)) (has_promise m.from n s) (first_refusal (offer_causes m.from queue c s)) n queue c script
-            (each (nat_le 1 n) (is_sane_carried c ∷ is_of_site hosts c.id.host ∷ is_short_script script ∷ []) k).1.1.1.0
+        of (body.Offer n low queue c script) k =
+            offered (closes n (find_peer m.from s)) (has_promise m.from n s) (first_refusal (offer_causes m.from low queue c s)) n low queue c script
+            (each (nat_le 1 n) (is_sane_low low n ∷ is_sane_carried c ∷ is_of_site hosts c.id.host ∷ is_short_script script ∷ []) k).1.1.1.1.0
         of (body.Ready n) k = readied (find_hand m.from n s) n
         of (body.Refused n refusal) k = refused (find_hand m.from n s) n refusal
         of (body.Commit n) k = committed (has_promise m.from n s) (closes n (find_peer m.from s)) n

@@ -13,7 +13,7 @@ use Rattle.nqs_types.specs.declared.ids.PeerNumber.{PeerNumber}
 use Rattle.nqs_types.specs.declared.request.Hand.{Hand}
 use Rattle.nqs_rules.specs.Tests.{is_offered}
 use Rattle.nqs_rules.specs.Find.{peer_number, find_hand}
-use Rattle.nqs_rules.specs.Handover.{later, silent_hands, silence}
+use Rattle.nqs_rules.specs.Handover.{later, is_silent, silent_hands, silence}
 use Rattle.nqs_rules.specs.Applied.{hand_silent, hands_silent}
 use Rattle.nqs_rules.specs.Starts.{after_change}
 use Rattle.nqs_rules.specs.InOrder.{IsInOrder, are_distinct}
@@ -131,12 +131,15 @@ module _ (now : ℕ) (s : Plain) (o : IsInOrder s) where
   abbrev silent_by : ℕ → Hand → Bool
   silent_by patience y = is_offered y.phase && nat_le (later y.since patience) now
 
+  pub none_silent : (until : ℕ) → list_any (is_silent now s) (hands_silent until (silent_hands now s) s).hands ≡ false
+  none_silent until = silences (silent_by s.patience) until (silent_hands now s) s (keys_are s o.keys).hands (all_covered (silent_by s.patience) s.hands)
+
   -- those that are silent are taken back
   pub no_silence : (until : ℕ) → has_no_silence now (hands_silent until (silent_hands now s) s) ≡ true
   no_silence until =
       ap (λ p. not (list_any (silent_by p) (hands_silent until (silent_hands now s) s).hands)) (silents_patience until (silent_hands now s) s)
       ∙ not_from_false (list_any (silent_by s.patience) (hands_silent until (silent_hands now s) s).hands)
-      (silences (silent_by s.patience) until (silent_hands now s) s (keys_are s o.keys).hands (all_covered (silent_by s.patience) s.hands))
+      (none_silent until)
 
   -- and where there are none, nothing changes
   pub silence_ends : has_no_silence now (after_change (silence now s.retry_wait (silent_hands now s)) s) ≡ true

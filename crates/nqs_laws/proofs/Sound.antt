@@ -12,7 +12,7 @@ use Rattle.nqs_types.specs.declared.ids.HostId.{HostId}
 use Rattle.nqs_types.specs.declared.request.Carried.{Carried}
 use Rattle.nqs_types.specs.declared.message.Message.{Message}
 use Rattle.nqs_types.specs.declared.change.Change.{Change}
-use Rattle.nqs_types.specs.declared.change.Change.TheVariants.{Submitted, Started, Boot, HandOpened, Promised, MovedLocal, RefusedLocal, HeldFar}
+use Rattle.nqs_types.specs.declared.change.Change.TheVariants.{Submitted, Started, Boot, HandOpened, OldPromised, Promised, MovedLocal, RefusedLocal, HeldFar}
 use Rattle.nqs_types.specs.declared.event.Event.{Event}
 use Rattle.nqs_types.specs.declared.event.Event.TheVariants as event
 use Rattle.nqs_types.specs.declared.event.Output.TheVariants as out
@@ -79,7 +79,8 @@ module _ (site : List (List ℕ)) (place : ℕ) (s : Plain) (h : IsHost site pla
 
   new_short : (c : Change (List ℕ)) → is_short_change c ≡ true → NewPasses is_script_short c s
   new_short (Submitted queue job script) k = (and_parts (is_short_script script) true k).0
-  new_short (Promised peer number queue c script) k = (and_parts (is_short_script script) true k).0
+  new_short (OldPromised peer number queue c script) k = (and_parts (is_short_script script) true k).0
+  new_short (Promised peer number low queue c script) k = (and_parts (is_short_script script) true k).0
   new_short c k = tt
 
   pub host_kept : (c : Change (List ℕ)) → fits c s ≡ true → is_sane_change c ≡ true → is_short_change c ≡ true → IsHost site place (applied c s)

@@ -4,7 +4,6 @@ use Rattle.std.proofs.Common.{◌≡◌, ℕ, ◌+◌, ◌⊎◌, inl, inr, Bool
 use Rattle.std.proofs.Common.{ap, ◌∙◌, if◌then◌else◌}
 use Rattle.std.proofs.lemmas.Bool.{and_parts, false_from_ne_true}
 use Rattle.std.proofs.lemmas.Option.{same_Some}
-use Rattle.std.specs.List.{list_any}
 use Rattle.std.specs.Option.{option_map}
 use Rattle.nqs_base.specs.Same.{name_eq}
 use Rattle.nqs_types.specs.Ids.{id_eq, id_exact}
@@ -22,7 +21,7 @@ use Rattle.nqs_types.specs.declared.edit.Edit.{Edit}
 use Rattle.nqs_types.specs.declared.edit.Edit.TheVariants.{Conf, Limits as LimitsOf, Access as AccessOf, Devices as DevicesOf, Rows as RowsOf}
 use Rattle.nqs_types.specs.declared.change.Change.{Change}
 use Rattle.nqs_types.specs.declared.change.Change.TheVariants.{Site, Submitted, Deleted, Doomed, Started, Ended, Unlaunched, Boot, Edited, HandOpened}
-use Rattle.nqs_types.specs.declared.change.Change.TheVariants.{HandCommitted, HandRefused, HandsSilent, HandDone, Promised, Accepted, Dropped, MovedLocal}
+use Rattle.nqs_types.specs.declared.change.Change.TheVariants.{HandCommitted, HandRefused, HandsSilent, HandDone, OldPromised, Promised, Accepted, Dropped, MovedLocal}
 use Rattle.nqs_types.specs.declared.change.Change.TheVariants.{RefusedLocal, HeldFar, StageGot, StageGone, FileGone}
 use Rattle.nqs_state.specs.Least.{runs_now}
 use Rattle.nqs_rules.specs.Tests.{passes, is_ready, is_routing, is_running, is_queued, is_unheld}
@@ -33,7 +32,7 @@ use Rattle.nqs_rules.specs.Rows.{with_priority}
 use Rattle.nqs_rules.specs.Applied.{next_id, may_start_again, lost_row, doomed_row, started_row, routing_row, requeued_row, moved_local, local_refused}
 use Rattle.nqs_rules.specs.Applied.{held_far, hand_silent}
 use Rattle.nqs_rules.specs.Fits.{fits, edit_fits, row_passes, may_hop, is_next, device_fits}
-use Rattle.nqs_rules.specs.Routing.{is_hand_to}
+use Rattle.nqs_rules.specs.Routing.{has_room_for_hand, is_within_window}
 use Rattle.nqs_rules.specs.InOrder.{IsInOrder, IsConsistent, is_hold_right}
 use Rattle.nqs_rules.proofs.Chains.{each}
 use Rattle.nqs_rules.proofs.ConfOrder.{Allows, none_holds}
@@ -133,7 +132,8 @@ grows (RefusedLocal id queue refusal) s x = inl (changed_none id (local_refused 
 grows (HeldFar id) s x = inl (changed_none id held_far x)
 grows (Site me site) s x = inl refl
 grows (HandDone peer number) s x = inl refl
-grows (Promised peer number queue k script) s x = inl refl
+grows (OldPromised peer number queue k script) s x = inl refl
+grows (Promised peer number low queue k script) s x = inl refl
 grows (Dropped peer number) s x = inl refl
 grows (StageGot peer number path bytes) s x = inl refl
 grows (StageGone peer number) s x = inl refl
@@ -229,12 +229,13 @@ module _ (s : Plain) (h : IsInOrder s) (calm : IsConsistent s) (x : Request) (r 
   spares (Edited e) fit plain = edit_spares e fit
   spares (HandOpened peer number id queue since) fit plain =
       changed_other id routing_row (passes_other may_hop id (λ q k. ready_unrouted q (and_parts (is_ready q) (nat_lt q.hops 32) k).0)
-      (each (row_passes (may_hop {E = List ℕ}) id s) (passes (is_next number) (find_peer peer s) ∷ not (list_any (is_hand_to peer) s.hands) ∷ []) fit).0)
+      (each (row_passes (may_hop {E = List ℕ}) id s) (passes (is_next number) (find_peer peer s) ∷ has_room_for_hand peer s ∷ passes (is_within_window peer s) (find_peer peer s) ∷ []) fit).0)
   spares (HandCommitted peer number) fit plain = absurd plain
   spares (HandRefused peer number refusal) fit plain = absurd plain
   spares (HandsSilent until ks) fit plain = absurd plain
   spares (HandDone peer number) fit plain = refl
-  spares (Promised peer number queue k script) fit plain = refl
+  spares (OldPromised peer number queue k script) fit plain = refl
+  spares (Promised peer number low queue k script) fit plain = refl
   spares (Accepted peer number) fit plain = of (find_promise peer number s)
     where
       of : (o : Option (Promise (List ℕ))) → accepted_after o x (Some r) ≡ Some r

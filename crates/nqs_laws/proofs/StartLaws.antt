@@ -30,7 +30,7 @@ use Rattle.nqs_rules.specs.Find.{host_at, find_peer}
 use Rattle.nqs_rules.specs.Handover.{opened_with}
 use Rattle.nqs_rules.specs.InOrder.{IsInOrder, is_row_right, is_promise_right, is_count_right}
 use Rattle.nqs_rules.specs.Net.{Entry, row_entry, promise_entry, is_arriving, arriving, entries_from, entries}
-use Rattle.nqs_rules.specs.Sane.{is_sane_message, is_sane_body, is_of_site, is_sane_carried, is_sane_id, is_sane_job}
+use Rattle.nqs_rules.specs.Sane.{is_sane_low, is_sane_message, is_sane_body, is_of_site, is_sane_carried, is_sane_id, is_sane_job}
 use Rattle.nqs_rules.specs.Start.{moving_by, local_causes}
 use Rattle.nqs_rules.specs.Starts.{after_change}
 use Rattle.nqs_rules.specs.Step.{step}
@@ -116,9 +116,9 @@ all_counted site acts few sane =
     entries_pass is_counted states 0 states (λ n s at. order_counted s (k.hosts n s at).order)
 
 carried_counted : (n : ℕ) (b : Body) → is_sane_body n b ≡ true → body_passes is_carried_counted b ≡ true
-carried_counted n (body.Offer number queue c script) k =
-    let p = each (nat_le 1 number) (is_sane_carried c ∷ is_of_site n c.id.host ∷ _ ∷ []) k in
-    let q = each (is_sane_id c.id) (is_sane_job c.job ∷ _ ∷ (c.lost == c.starts) ∷ _ ∷ []) p.1.0 in
+carried_counted n (body.Offer number low queue c script) k =
+    let p = each (nat_le 1 number) (is_sane_low low number ∷ is_sane_carried c ∷ is_of_site n c.id.host ∷ _ ∷ []) k in
+    let q = each (is_sane_id c.id) (is_sane_job c.job ∷ _ ∷ (c.lost == c.starts) ∷ _ ∷ []) p.1.1.0 in
     eq-eqb c.starts c.lost (sym (eqb-true c.lost c.starts q.1.1.1.0))
 carried_counted n b k = refl
 

@@ -44,7 +44,7 @@ IsByCommand _ c = ⊥
 -- a datagram moves the handover, the promise or the stage of its sender that has its number; the
 -- bytes of a stage go where no number is left for its file
 abbrev pub IsByMessage : Body → HostId → Change (List ℕ) → Type 0
-IsByMessage (body.Offer n queue load script) peer c = c ≡ Promised peer n queue load script
+IsByMessage (body.Offer n low queue load script) peer c = c ≡ Promised peer n low queue load script
 IsByMessage (body.Ready n) peer c = c ≡ HandCommitted peer n
 IsByMessage (body.Refused n refusal) peer c = c ≡ HandRefused peer n refusal
 IsByMessage (body.Commit n) peer c = c ≡ Accepted peer n

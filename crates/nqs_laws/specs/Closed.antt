@@ -22,11 +22,11 @@ abbrev pub HasNoHand : List Plain → HostId → HostId → ℕ → Type 0
 HasNoHand states from to n = (s : Plain) → HasState states from s → is_some (find_hand to n s) ≡ false
 
 -- the numbers that a change may close: a promise that is accepted or dropped closes its own, a new
--- promise earlier ones that have no handover, and no other change any
+-- promise those below its low, which have no handover, and no other change any
 abbrev pub MayClose : Change (List ℕ) → List Plain → HostId → HostId → ℕ → Type 0
 MayClose (Accepted peer number) states h from n = (from ≡ peer) × (n ≡ number)
 MayClose (Dropped peer number) states h from n = (from ≡ peer) × (n ≡ number)
-MayClose (Promised peer number queue c script) states h from n = (from ≡ peer) × (n < number) × HasNoHand states from h n
+MayClose (Promised peer number low queue c script) states h from n = (from ≡ peer) × (n < low) × HasNoHand states from h n
 MayClose c states h from n = ⊥
 
 -- the number that a change does close

@@ -36,5 +36,5 @@ pub record AreKept (first : List Plain) (notes : List Note) (w : World) : Type 0
       → submitted_script x first notes ≡ Some r.script
   pub promises : (h : HostId) (s : Plain) → IsStateOf w h s → (from : HostId) (number : ℕ) (p : Promise (List ℕ)) → find_promise from number s ≡ Some p
       → submitted_script p.row.id first notes ≡ Some p.row.script
-  pub offers : (m : Message) (number : ℕ) (queue : List ℕ) (c : Carried) (script : List ℕ) → WasSent w m → m.body ≡ Offer number queue c script
+  pub offers : (m : Message) (number low : ℕ) (queue : List ℕ) (c : Carried) (script : List ℕ) → WasSent w m → m.body ≡ Offer number low queue c script
       → submitted_script c.id first notes ≡ Some script

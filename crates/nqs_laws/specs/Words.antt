@@ -63,7 +63,7 @@ is_carried_never_lost c = c.job.rerun || c.lost == 0
 
 -- what an offer carries passes the test
 abbrev pub body_passes : (Carried → Bool) → Body → Bool
-body_passes test (body.Offer _ _ c _) = test c
+body_passes test (body.Offer _ _ _ c _) = test c
 body_passes test _ = true
 
 -- what a message offers, if it is an offer, passes the test

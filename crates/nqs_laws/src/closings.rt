@@ -8,8 +8,8 @@ ghost use Rattle.nqs_laws.specs.Handovers.{is_closed_for};
 ghost use Rattle.nqs_laws.specs.Closed.{HasState, IsClosedBy, MayClose, ClosesOwn};
 ghost use Rattle.nqs_laws.specs.Each.{InEachHistory};
 
-/// A promise that is accepted or dropped closes its number. It closes no other; a new promise
-/// closes no number that has a handover; no other change closes any.
+/// A promise that is accepted or dropped closes its number, and no other. A new promise closes numbers
+/// below its low alone, and none that has a handover. No other change closes any.
 pub fn ends_of_promises_close_their_numbers()
     ensures own { InEachHistory (λ states h why c. (t : Plain) → HasState states h t → ClosesOwn c t) }
     ensures only { InEachHistory (λ states h why c. (t : Plain) → HasState states h t → (from : HostId) (number : ℕ) → IsClosedBy c from number t

@@ -1,17 +1,17 @@
 //! Laws of handovers from host to host, in every world that a list of events on 1 to 16 hosts
 //! reaches, whatever stopped and whichever packets were lost, repeated or late.
-ghost use Rattle.std.specs.Prelude.{◌≡◌, ◌||◌, List, ℕ, Some, true, false, is_some};
+ghost use Rattle.std.specs.Prelude.{◌≡◌, ◌||◌, List, ℕ, Some, true, false};
 ghost use Rattle.nqs_state.specs.State.{Plain};
 ghost use Rattle.nqs_types.specs.declared.ids.HostId.{HostId};
 ghost use Rattle.nqs_types.specs.declared.request.Carried.{Carried};
 ghost use Rattle.nqs_types.specs.declared.request.Promise.{Promise};
 ghost use Rattle.nqs_types.specs.declared.message.Message.{Message};
 ghost use Rattle.nqs_types.specs.declared.message.Body.TheVariants.{Offer, Commit};
-ghost use Rattle.nqs_rules.specs.Find.{has_row, find_hand, find_peer, find_promise};
+ghost use Rattle.nqs_rules.specs.Find.{has_row, find_promise};
 ghost use Rattle.nqs_rules.specs.Handover.{is_not_given_here};
 ghost use Rattle.nqs_laws.specs.Each.{InEachWorld, AsRunsGoOn};
-ghost use Rattle.nqs_laws.specs.Between.{InEachPair, OfEachPacket, HasGivenNumber, PromisesAreNext, PromisesAgree, PromisesAreMeant};
-ghost use Rattle.nqs_laws.specs.Handovers.{IsStateOf, WasSent, is_open, is_closed_for, is_taken_for, is_last_given, AreInStep, IsTrueOf};
+ghost use Rattle.nqs_laws.specs.Between.{InEachPair, OfEachPacket, HasGivenNumber, HandsAreFew, TakenAreNear, PromisesAgree, PromisesAreMeant};
+ghost use Rattle.nqs_laws.specs.Handovers.{IsStateOf, WasSent, is_open, is_closed_for, is_taken_for, AreInStep, IsTrueOf};
 
 /// What two hosts have of a handover goes together: an offered number isn't closed at its receiver,
 /// a committed one is promised or closed there, and a promised one isn't closed.
@@ -19,10 +19,10 @@ pub fn handovers_are_in_step()
     ensures { InEachWorld (λ w. (from to : HostId) (s t : Plain) → IsStateOf w from s → IsStateOf w to t → AreInStep from to s t) }
 {}
 
-/// A host has one handover to another at most: the last number that it gave is that of each.
-pub fn handovers_have_the_last_number()
-    ensures { InEachWorld (λ w. (host to : HostId) (number : ℕ) (s : Plain) → IsStateOf w host s → is_some (find_hand to number s) ≡ true
-        → is_last_given number (find_peer to s) ≡ true) }
+/// A host has at most eight handovers to another, under different numbers that it gave. The next
+/// number is at most 64 above the least of them.
+pub fn handovers_are_few()
+    ensures { InEachPair HandsAreFew }
 {}
 
 /// What a packet said of a handover is true at every later moment.
@@ -36,9 +36,11 @@ pub fn packets_have_given_numbers()
     ensures { OfEachPacket HasGivenNumber }
 {}
 
-/// A promise's number is one more than the last that is closed for its source.
-pub fn promises_have_the_next_number()
-    ensures { InEachPair PromisesAreNext }
+/// A receiver's floor is below each handover of the source. The numbers that it promised, or closed
+/// above the floor, were given by the source, and are at most 64 above the floor. So it keeps at most
+/// 64 closed numbers apart, whatever comes. No promised number is closed.
+pub fn taken_numbers_are_near()
+    ensures { InEachPair TakenAreNear }
 {}
 
 /// What is promised is what its handover carries: while that is open, the request with its job,
@@ -64,7 +66,7 @@ pub fn promises_go_when_closed()
 /// While an offer is open, none of its packets finds its request at the receiver: it is never
 /// refused because the request exists.
 pub fn open_offers_find_no_row()
-    ensures { InEachWorld (λ w. (m : Message) (number : ℕ) (queue : List ℕ) (c : Carried) (script : List ℕ) → WasSent w m → m.body ≡ Offer number queue c script
+    ensures { InEachWorld (λ w. (m : Message) (number low : ℕ) (queue : List ℕ) (c : Carried) (script : List ℕ) → WasSent w m → m.body ≡ Offer number low queue c script
         → (s t : Plain) → IsStateOf w m.from s → IsStateOf w m.to t → is_open m.to number s ≡ true → (has_row c.id t || is_not_given_here c.id t) ≡ false) }
 {}
 

@@ -69,10 +69,10 @@ module _ (me : HostId) (site : List (List ℕ)) where
     formatted_told = record {
       host = formatted me site;
       is = record {
-        has = false;
+        version = 0;
         snapshot = [];
         payloads = is.payload ∷ [];
-        stands = subst (λ root. StandsBy (bytes (active root)) false [] (is.payload ∷ [])) (sym no_root) (refl, is.opened.stands);
+        stands = subst (λ root. StandsBy (bytes (active root)) 0 [] (is.payload ∷ [])) (sym no_root) (refl, is.opened.stands);
         tells = is.tells;
         sound = record { apart = tt; within = tt };
       };
@@ -82,7 +82,7 @@ module _ (me : HostId) (site : List (List ℕ)) where
     pub formatted_is_active : IsActive bytes formatted_active
     formatted_is_active = record {
       named = ap is_second no_root;
-      has = false;
+      version = 0;
       snapshot = [];
       payloads = is.payload ∷ [];
       stands = (refl, is.opened.stands);

@@ -6,21 +6,22 @@ use Rattle.nqs_types.specs.declared.request.Promise.{Promise}
 use Rattle.nqs_types.specs.declared.message.Message.{Message}
 use Rattle.nqs_types.specs.declared.message.Body.TheVariants.{Offer, Commit, Inquire, Done}
 use Rattle.nqs_state.specs.State.{Plain}
-use Rattle.nqs_rules.specs.Find.{has_row, has_promise, find_hand, find_peer, find_promise}
+use Rattle.nqs_rules.specs.Find.{has_row, has_promise, find_hand, find_promise}
 use Rattle.nqs_rules.specs.Handover.{is_not_given_here}
 use Rattle.nqs_rules.specs.World.{World}
 use Rattle.nqs_rules.specs.Net.{is_committed_to}
-use Rattle.nqs_laws.specs.Between.{HasGivenNumber, PromisesAreNext, PromisesAgree, PromisesAreMeant}
-use Rattle.nqs_laws.specs.Handovers.{IsStateOf, WasSent, is_open, is_last_given, AreInStep, IsTrueOf}
+use Rattle.nqs_laws.specs.Between.{HasGivenNumber, HandsAreFew, TakenAreNear, PromisesAgree, PromisesAreMeant}
+use Rattle.nqs_laws.specs.Handovers.{IsStateOf, WasSent, is_open, AreInStep, IsTrueOf}
 use Rattle.nqs_laws.specs.Sending.{word}
 use Rattle.nqs_laws.specs.Whole.{IsVerdict, IsSettledInThree}
 
 -- What a source of handovers, in state s, and a receiver, in state t, have of them goes together:
--- in step, one number behind the last that is closed, the same load while it is open, and the same
--- errand once it is committed.
+-- in step, eight at most, numbers that are near each other, the same load while it is open, and the
+-- same errand once it is committed.
 pub record PairKeeps (from to : HostId) (s t : Plain) : Type 0 where
   pub step : AreInStep from to s t
-  pub next : PromisesAreNext from to s t
+  pub few : HandsAreFew from to s t
+  pub near : TakenAreNear from to s t
   pub load : PromisesAgree from to s t
   pub errand : PromisesAreMeant from to s t
 
@@ -32,18 +33,15 @@ pub record PacketKeeps (m : Message) (s t : Plain) : Type 0 where
 -- An open offer finds no request of its own at its receiver, and a commit finds none among the
 -- rows.
 pub record FindsNone (m : Message) (s t : Plain) : Type 0 where
-  pub offered : (number : ℕ) (queue : List ℕ) (c : Carried) (script : List ℕ) → m.body ≡ Offer number queue c script → is_open m.to number s ≡ true
+  pub offered : (number low : ℕ) (queue : List ℕ) (c : Carried) (script : List ℕ) → m.body ≡ Offer number low queue c script → is_open m.to number s ≡ true
       → (has_row c.id t || is_not_given_here c.id t) ≡ false
   pub committed : (number : ℕ) (p : Promise (List ℕ)) → m.body ≡ Commit number → find_promise m.from number t ≡ Some p → has_row p.row.id t ≡ false
 
--- each two hosts, each packet that was ever sent, and each handover of a host, which has the last
--- number that the host gave
+-- each two hosts, and each packet that was ever sent
 pub record KeepsHandovers (w : World) : Type 0 where
   pub pairs : (from to : HostId) (s t : Plain) → IsStateOf w from s → IsStateOf w to t → PairKeeps from to s t
   pub packets : (m : Message) → WasSent w m → (s t : Plain) → IsStateOf w m.from s → IsStateOf w m.to t → PacketKeeps m s t
   pub finds : (m : Message) → WasSent w m → (s t : Plain) → IsStateOf w m.from s → IsStateOf w m.to t → FindsNone m s t
-  pub last : (host to : HostId) (number : ℕ) (s : Plain) → IsStateOf w host s → is_some (find_hand to number s) ≡ true
-      → is_last_given number (find_peer to s) ≡ true
 
 -- Three events settle each promise, and each handover that is committed: a tick of its host, the
 -- arrival of what this asked, and that of the answer.

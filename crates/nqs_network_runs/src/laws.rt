@@ -11,9 +11,9 @@ use nqs_laws::at_once::{boots_purges_and_aborts_leave_none, ticks_take_back_all}
 use nqs_laws::causes::events_make_their_own_changes;
 use nqs_laws::closings::ends_of_promises_close_their_numbers;
 use nqs_laws::handovers::{
-    accepted_requests_find_no_row, handovers_are_in_step, handovers_have_the_last_number,
-    messages_stay_true, open_offers_find_no_row, packets_have_given_numbers,
-    promises_have_the_next_number, promises_keep_what_is_handed_over,
+    accepted_requests_find_no_row, handovers_are_few, handovers_are_in_step, messages_stay_true,
+    open_offers_find_no_row, packets_have_given_numbers, promises_keep_what_is_handed_over,
+    taken_numbers_are_near,
 };
 use nqs_laws::launches::{launches_are_apart, launches_are_numbered, no_launch_comes_twice};
 use nqs_laws::numbers::{requests_are_numbered, submissions_give_numbers};
@@ -62,13 +62,13 @@ pub fn runs_keep_the_laws()
     boots_tell_what_ran();
     nothing_is_left_to_start();
     handovers_are_in_step();
-    promises_have_the_next_number();
+    handovers_are_few();
+    taken_numbers_are_near();
     promises_keep_what_is_handed_over();
     messages_stay_true();
     packets_have_given_numbers();
     open_offers_find_no_row();
     accepted_requests_find_no_row();
-    handovers_have_the_last_number();
     promises_are_settled();
     commitments_are_settled();
 }

@@ -94,7 +94,7 @@ loaded_is store host told bytes s same is e = (λ j. map_state (extent_bytes (sa
 pub active_told : (images : Which → List ℕ) (s : Plain) → IsTold images s → (a : Active) × IsActive images a
 active_told images s told = (
   record { second = is_second (images Root); records = length told.is.payloads },
-  record { named = refl; has = told.is.has; snapshot = told.is.snapshot; payloads = told.is.payloads; stands = told.is.stands; many = refl },
+  record { named = refl; version = told.is.version; snapshot = told.is.snapshot; payloads = told.is.payloads; stands = told.is.stands; many = refl },
 )
 
 -- what a call leaves whose fault is told as one of a boot

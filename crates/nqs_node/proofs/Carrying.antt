@@ -32,7 +32,7 @@ reads_short host short (read ∷ reads) alive = (
 -- an output with few bytes
 
 carried : (bytes : List ℕ) → is_short_script bytes ≡ true → (b : Body) → carries_short (sent_with bytes b) ≡ true
-carried bytes few (Offer number queue c script) = few
+carried bytes few (Offer number low queue c script) = few
 carried bytes few (Stage number path out) = few
 carried bytes few b = refl
 

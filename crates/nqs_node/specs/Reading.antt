@@ -34,7 +34,7 @@ IsShortRead read = is_short_extent read.extent ≡ true
 
 -- the script or output that a message carries is short enough
 abbrev pub carries_short : Body → Bool
-carries_short (Offer _ _ _ script) = is_short_script script
+carries_short (Offer _ _ _ _ script) = is_short_script script
 carries_short (Stage _ _ bytes) = is_short_script bytes
 carries_short _ = true
 

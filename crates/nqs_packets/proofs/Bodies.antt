@@ -4,6 +4,7 @@ use Rattle.std.proofs.lemmas.Bool.{and_parts}
 use Rattle.std.proofs.lemmas.Bool.Decides.{nat_tests}
 use Rattle.nqs_records.specs.declared.fault.RecordFault.TheVariants.{Short}
 use Rattle.nqs_records.specs.Reading.{numbered}
+use Rattle.nqs_records.specs.Parts.{low_at}
 use Rattle.nqs_packets.specs.Parts.{number_at, cause_at, run_at, bytes_at, tool_at, words_at, is_any}
 use Rattle.nqs_packets.specs.Bodies.{bodies, no_body, offer_at, ready_at, refused_at, commit_at, done_at, inquire_at, abort_at, stage_at, staged_at, ask_at}
 use Rattle.nqs_packets.specs.Bodies.{answer_at, ended_at, ended_ack_at}
@@ -15,6 +16,10 @@ use Rattle.nqs_packets.proofs.Fields.{u64_fields, bool_fields, name_fields, path
 number_f : AreFields number_at
 unfolding number_at
 number_f = within_fields _ _ u64_fields
+
+low_f : (number : ℕ) → AreFields (low_at number)
+unfolding low_at
+low_f number = within_fields _ _ u64_fields
 
 cause_f : AreFields cause_at
 unfolding cause_at
@@ -46,7 +51,8 @@ too_many n is more = let p = and_parts (nat_le 1 n) (nat_le n 13) is in grind (a
 pub body_fields : (kind : ℕ) → is_kind kind ≡ true → AreFields (numbered bodies kind no_body)
 unfolding bodies offer_at ready_at refused_at commit_at done_at inquire_at abort_at stage_at staged_at ask_at answer_at ended_at ended_ack_at
 body_fields zero is = absurd (let no : ⊥ = cc in no)
-body_fields (suc zero) is = mapped_fields _ _ (both_fields _ _ number_f λ _. both_fields _ _ name_fields λ _. both_fields _ _ carried_fields λ _. bytes_f _)
+body_fields (suc zero) is = mapped_fields _ _
+    (both_fields _ _ number_f λ number. both_fields _ _ (low_f number) λ _. both_fields _ _ name_fields λ _. both_fields _ _ carried_fields λ _. bytes_f _)
 body_fields (suc (suc zero)) is = mapped_fields _ _ number_f
 body_fields (suc (suc (suc zero))) is = mapped_fields _ _ (both_fields _ _ number_f λ _. cause_f)
 body_fields (suc (suc (suc (suc zero)))) is = mapped_fields _ _ number_f

@@ -10,7 +10,7 @@ use Rattle.nqs_records.proofs.IsRead.{IsRead}
 use Rattle.nqs_records.proofs.Numbers.{u8_read, u16_read, u64_read}
 use Rattle.nqs_records.proofs.Named.{bool_read, name_read, path_read}
 use Rattle.nqs_records.proofs.Chains.{both_read, last_read}
-use Rattle.nqs_records.proofs.PartLaws.{id_law, carried_law}
+use Rattle.nqs_records.proofs.PartLaws.{id_law, carried_law, low_law}
 use Rattle.nqs_records.proofs.Numbered.{AllFind, finds}
 use Rattle.nqs_packets.specs.Bodies.{bodies, no_body, offer_at, ready_at, refused_at, commit_at, done_at, inquire_at, abort_at, stage_at, staged_at, ask_at}
 use Rattle.nqs_packets.specs.Bodies.{answer_at, ended_at, ended_ack_at}
@@ -29,8 +29,9 @@ one_number = last_read number_law
 pub bodies_find : AllFind IsBody tagged 1 bodies
 unfolding bodies body_field offer_at ready_at refused_at commit_at done_at inquire_at abort_at stage_at staged_at ask_at answer_at ended_at ended_ack_at
 bodies_find = (
-  finds 1 (λ v. Offer v.0 v.1.0 v.1.1.0 v.1.1.1) (λ v is. (is.0, is.1.0, is.1.1.0, is.1.1.1)) (λ v. refl)
-      (both_read number_law λ _ _. both_read name_read λ _ _. both_read carried_law λ _ _. last_read (short_law 32768)),
+  finds 1 (λ v. Offer v.0 v.1.0 v.1.1.0 v.1.1.1.0 v.1.1.1.1) (λ v is. (is.0, is.1.0, is.1.1.0, is.1.1.1.0, is.1.1.1.1)) (λ v. refl)
+      (both_read number_law λ number is. both_read (low_law number is.1) λ _ _. both_read name_read λ _ _. both_read carried_law λ _ _.
+      last_read (short_law 32768)),
   (
     finds 2 (λ v. Ready v) (λ v is. is) (λ v. refl) one_number,
     (
@@ -85,9 +86,10 @@ row {T} {IsT} {f} {r} make one t bytes rest place fits is_t is = bind (r bytes p
 pub body_taken : (b : Body) (bytes rest : List ℕ) (place : ℕ) → AreBytes bytes → IsBody b → drop place bytes ≡ body_field b ++ rest
     → numbered bodies (kind_of b) no_body bytes place ≡ Ok (b, place + length (body_field b))
 unfolding bodies body_field offer_at ready_at refused_at commit_at done_at inquire_at abort_at stage_at staged_at ask_at answer_at ended_at ended_ack_at
-body_taken (Offer n q c s) bytes rest place fits ok is =
-    row (λ v. Offer v.0 v.1.0 v.1.1.0 v.1.1.1) (both_read number_law λ _ _. both_read name_read λ _ _. both_read carried_law λ _ _. last_read (short_law 32768))
-    (n, (q, (c, s))) bytes rest place fits (ok.0, (ok.1, (ok.2, ok.3))) is
+body_taken (Offer n l q c s) bytes rest place fits ok is =
+    row (λ v. Offer v.0 v.1.0 v.1.1.0 v.1.1.1.0 v.1.1.1.1) (both_read number_law λ number is. both_read (low_law number is.1) λ _ _. both_read name_read λ _ _.
+    both_read carried_law λ _ _. last_read (short_law 32768))
+    (n, (l, (q, (c, s)))) bytes rest place fits (ok.0, (ok.1, (ok.2, (ok.3, ok.4)))) is
 body_taken (Ready n) bytes rest place fits ok is = row (λ v. Ready v) one_number n bytes rest place fits ok is
 body_taken (Refused n cause) bytes rest place fits ok is = row (λ v. Refused v.0 v.1) (both_read number_law λ _ _. last_read cause_law)
     (n, cause) bytes rest place fits (ok.0, ok.1) is

@@ -65,7 +65,7 @@ message_found bytes place m next fits e =
     ((from.0, to.0, body.is_value), all)
 
 kind_small : (b : Body) → (kind_of b < 2 ^ 8) × (is_kind (kind_of b) ≡ true)
-kind_small (Offer n q c s) = (omega arith, refl)
+kind_small (Offer n l q c s) = (omega arith, refl)
 kind_small (Ready n) = (omega arith, refl)
 kind_small (Refused n cause) = (omega arith, refl)
 kind_small (Commit n) = (omega arith, refl)

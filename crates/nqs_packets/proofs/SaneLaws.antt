@@ -7,7 +7,7 @@ use Rattle.nqs_types.specs.declared.request.Job.{Job}
 use Rattle.nqs_types.specs.declared.request.Carried.{Carried}
 use Rattle.nqs_types.specs.declared.message.Body.{Body}
 use Rattle.nqs_types.specs.declared.message.Body.TheVariants.{Offer, Ready, Refused, Commit, Done, Inquire, Abort, Stage, Staged, Ask, Answer, Ended, EndedAck}
-use Rattle.nqs_rules.specs.Sane.{is_of_site, is_offer_refusal, is_sane_id, is_sane_job, is_sane_carried, is_short_script, is_sane_body}
+use Rattle.nqs_rules.specs.Sane.{is_of_site, is_offer_refusal, is_sane_low, is_sane_id, is_sane_job, is_sane_carried, is_short_script, is_sane_body}
 use Rattle.nqs_records.specs.Values.{IsJob, IsCarried, IsHost}
 use Rattle.nqs_rules.proofs.PathStands.{path_stands}
 use Rattle.nqs_records.proofs.SaneLaws.{starts_few, path_sane, carried_sane}
@@ -16,7 +16,7 @@ use Rattle.nqs_packets.specs.Messages.{offers_of_site, WhatIsReadIsSane, is_shor
 use Rattle.nqs_packets.proofs.Spelled.{is_spelled}
 
 pub body_sane : (hosts : ℕ) (b : Body) → IsBody b → offers_of_site hosts b ≡ true → is_sane_body hosts b ≡ true
-body_sane hosts (Offer n q c s) ok of_site = and_from _ _ (and_from _ _ (and_from _ _ ok.0.0 (carried_sane c ok.2)) of_site) ok.3.0
+body_sane hosts (Offer n l q c s) ok of_site = and_from _ _ (and_from _ _ (and_from _ _ (and_from _ _ ok.0.0 ok.1) (carried_sane c ok.3)) of_site) ok.4.0
 body_sane hosts (Refused n cause) ok of_site = and_from _ _ ok.0.0 ok.1.0
 body_sane hosts (Stage n path output) ok of_site = and_from _ _ (and_from _ _ ok.0.0 (path_sane path ok.1)) ok.2.0
 body_sane hosts _ ok of_site = refl
@@ -27,7 +27,7 @@ what_is_read_is_sane bytes m hosts fits is of_site =
     and_from _ _ p.0 (body_sane hosts m.body (is_spelled bytes m fits is).1.2 p.1)
 
 body_short : (b : Body) → IsBody b → is_short_body b ≡ true
-body_short (Offer n q c s) ok = refl
+body_short (Offer n l q c s) ok = refl
 body_short (Ready n) ok = refl
 body_short (Refused n cause) ok = refl
 body_short (Commit n) ok = refl
@@ -64,11 +64,11 @@ carried_is c typed host sane =
     ((e.0, host), job_is c.job typed e.1, starts_few c.starts d.1, b.1, a.1)
 
 body_is : (b : Body) → IsSaid b → is_sane_body 16 b ≡ true → IsBody b
-body_is (Offer n q c s) said sane =
-    let x = and_parts (nat_le 1 n && is_sane_carried c && is_of_site 16 c.id.host) (is_short_script s) sane in
-    let y = and_parts (nat_le 1 n && is_sane_carried c) (is_of_site 16 c.id.host) x.0 in
-    let z = and_parts (nat_le 1 n) (is_sane_carried c) y.0 in
-    (said.0, said.1, carried_is c said.2 y.1 z.1, short_is 32768 s (omega arith) x.1)
+body_is (Offer n l q c s) said sane =
+    let x = and_parts (nat_le 1 n && is_sane_low l n && is_sane_carried c && is_of_site 16 c.id.host) (is_short_script s) sane in
+    let y = and_parts (nat_le 1 n && is_sane_low l n && is_sane_carried c) (is_of_site 16 c.id.host) x.0 in
+    let z = and_parts (nat_le 1 n && is_sane_low l n) (is_sane_carried c) y.0 in
+    (said.0, (and_parts (nat_le 1 n) (is_sane_low l n) z.0).1, said.1, carried_is c said.2 y.1 z.1, short_is 32768 s (omega arith) x.1)
 body_is (Ready n) said sane = said
 body_is (Refused n cause) said sane = (said.0, ((and_parts (nat_le 1 n) (is_offer_refusal cause) sane).1, said.1))
 body_is (Commit n) said sane = said

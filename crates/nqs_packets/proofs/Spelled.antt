@@ -39,17 +39,17 @@ spelled_rest bytes place m fits is ok = alone_taken message_law bytes place m fi
 pub is_spelled : (bytes : List ℕ) (m : Message) → AreBytes bytes → message_of bytes ≡ Ok m → (bytes ≡ spelling m) × MaySend m
 unfolding message_of spelling
 is_spelled bytes m fits e =
-    let v = bound (or_packet_fault (u8_at bytes 0)) (λ v. cond (v.0 == 1) (or_packet_fault (rest_of bytes v.1)) (Err Version)) m e in
-    let p = of_version (v.0.0 == 1) (or_packet_fault (rest_of bytes v.0.1)) m v.2 in
+    let v = bound (or_packet_fault (u8_at bytes 0)) (λ v. cond (v.0 == 2) (or_packet_fault (rest_of bytes v.1)) (Err Version)) m e in
+    let p = of_version (v.0.0 == 2) (or_packet_fault (rest_of bytes v.0.1)) m v.2 in
     let first = (u8_read.found bytes 0 v.0.0 v.0.1 fits (packet_Ok (u8_at bytes 0) v.0 v.1)).1 in
     let later = rest_spelled bytes v.0.1 m fits (packet_Ok (rest_of bytes v.0.1) m p.1) in
-    (first.text ∙ (λ j. u8_field (eqb-true v.0.0 1 p.0 j) ++ later.0 j), later.1)
+    (first.text ∙ (λ j. u8_field (eqb-true v.0.0 2 p.0 j) ++ later.0 j), later.1)
 
 pub spelled_is : (bytes : List ℕ) (m : Message) → AreBytes bytes → bytes ≡ spelling m → MaySend m → message_of bytes ≡ Ok m
 unfolding message_of spelling u8_field
 spelled_is bytes m fits is ok =
-    let rest = spelled_rest bytes 1 m fits (rest_behind bytes 0 (u8_field 1) (behind m) is) ok in
-    bind (or_packet_fault (u8_at bytes 0)) _ _ _ (ap or_packet_fault (u8_read.taken bytes (behind m) 0 1 fits (omega arith) is)) (ap or_packet_fault rest)
+    let rest = spelled_rest bytes 1 m fits (rest_behind bytes 0 (u8_field 2) (behind m) is) ok in
+    bind (or_packet_fault (u8_at bytes 0)) _ _ _ (ap or_packet_fault (u8_read.taken bytes (behind m) 0 2 fits (omega arith) is)) (ap or_packet_fault rest)
 
 pub reads_the_spelling : ReadsTheSpelling
 reads_the_spelling bytes m fits = (λ e. is_spelled bytes m fits e, λ p. spelled_is bytes m fits p.0 p.1)

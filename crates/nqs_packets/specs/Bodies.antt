@@ -6,15 +6,15 @@ use Rattle.nqs_records.specs.declared.fault.RecordFault.TheVariants.{Kind}
 use Rattle.nqs_records.specs.Values.{is_at_most}
 use Rattle.nqs_records.specs.Reading.{Reading, mapped, both}
 use Rattle.nqs_records.specs.Fields.{u8_at, u16_at, u64_at, bool_at, name_at, path_at}
-use Rattle.nqs_records.specs.Parts.{id_at, carried_at}
+use Rattle.nqs_records.specs.Parts.{id_at, carried_at, low_at}
 use Rattle.nqs_packets.specs.Parts.{is_any, number_at, cause_at, bytes_at, tool_at, words_at}
 
--- an offer of a request: the handover's number, the queue that it is for, what is carried, and its
--- script
+-- an offer of a request: the handover's number and its low, the queue that it is for, what is
+-- carried, and its script
 unfoldable pub offer_at : Reading Body
 offer_at =
-    mapped (λ v. Offer v.0 v.1.0 v.1.1.0 v.1.1.1)
-    (both number_at λ _. both name_at λ _. both carried_at λ _. bytes_at (is_at_most 32768))
+    mapped (λ v. Offer v.0 v.1.0 v.1.1.0 v.1.1.1.0 v.1.1.1.1)
+    (both number_at λ number. both (low_at number) λ _. both name_at λ _. both carried_at λ _. bytes_at (is_at_most 32768))
 
 -- that the request of this handover is stored at the receiver
 unfoldable pub ready_at : Reading Body

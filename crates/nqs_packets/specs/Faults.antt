@@ -11,13 +11,13 @@ use Rattle.nqs_packets.specs.Reading.{is_kind, message_of}
 -- a first byte that is not the version
 abbrev pub HasOtherVersion : List ℕ → Type 0
 HasOtherVersion [] = ⊥
-HasOtherVersion (version ∷ rest) = version ≢ 1
+HasOtherVersion (version ∷ rest) = version ≢ 2
 
 -- the version, and a byte that is no kind
 abbrev pub HasOtherKind : List ℕ → Type 0
 HasOtherKind [] = ⊥
 HasOtherKind (version ∷ []) = ⊥
-HasOtherKind (version ∷ kind ∷ rest) = (version ≡ 1) × (is_kind kind ≡ false)
+HasOtherKind (version ∷ kind ∷ rest) = (version ≡ 2) × (is_kind kind ≡ false)
 
 -- Each fault beside that of a field comes exactly where bytes are so; bytes that end too early are
 -- short at their end.

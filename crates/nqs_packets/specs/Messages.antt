@@ -27,7 +27,7 @@ ReadsTheSpelling = (bytes : List ℕ) (message : Message) → AreBytes bytes →
 
 -- the host of an offered request is of a site of so many hosts
 abbrev pub offers_of_site : ℕ → Body → Bool
-offers_of_site hosts (Offer number queue carried script) = is_of_site hosts carried.id.host
+offers_of_site hosts (Offer number low queue carried script) = is_of_site hosts carried.id.host
 offers_of_site hosts _ = true
 
 -- the sender, and the host of an offered request, are of a site of so many hosts
@@ -57,7 +57,7 @@ IsTypedJob j = IsName j.name × IsName j.owner × IsU64 j.earliest × IsOpt IsU6
 -- what a host says to a host: its number is from 1 on, its names and numbers are as the code's
 -- types have them
 abbrev pub IsSaid : Body → Type 0
-IsSaid (Offer number queue carried script) = IsNumber number × IsName queue × IsTypedJob carried.job
+IsSaid (Offer number low queue carried script) = IsNumber number × IsName queue × IsTypedJob carried.job
 IsSaid (Ready number) = IsNumber number
 IsSaid (Refused number cause) = IsNumber number × IsU8 cause
 IsSaid (Commit number) = IsNumber number

@@ -51,7 +51,7 @@ rest_of bytes place = alone message_at bytes place
 unfoldable pub message_of : List ℕ → Result Message PacketFault
 message_of bytes = do
   version ← or_packet_fault (u8_at bytes 0)
-  if version.0 == 1 then or_packet_fault (rest_of bytes version.1) else Err Version
+  if version.0 == 2 then or_packet_fault (rest_of bytes version.1) else Err Version
 
 -- want of memory
 abbrev pub is_fault_of_memory : PacketFault → Bool

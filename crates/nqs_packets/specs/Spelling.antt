@@ -22,7 +22,7 @@ words_field words = u16_field (length words) ++ flat_map bytes_field words
 
 -- the number of a kind
 abbrev pub kind_of : Body → ℕ
-kind_of (Offer number queue carried script) = 1
+kind_of (Offer number low queue carried script) = 1
 kind_of (Ready number) = 2
 kind_of (Refused number cause) = 3
 kind_of (Commit number) = 4
@@ -38,7 +38,8 @@ kind_of (EndedAck id start) = 13
 
 -- the fields of a kind
 unfoldable pub body_field : Body → List ℕ
-body_field (Offer number queue carried script) = fields (u64_field number ∷ short_field queue ∷ carried_field carried ∷ bytes_field script ∷ [])
+body_field (Offer number low queue carried script) =
+    fields (u64_field number ∷ u64_field low ∷ short_field queue ∷ carried_field carried ∷ bytes_field script ∷ [])
 body_field (Ready number) = fields (u64_field number ∷ [])
 body_field (Refused number cause) = fields (u64_field number ∷ u8_field cause ∷ [])
 body_field (Commit number) = fields (u64_field number ∷ [])
@@ -56,4 +57,4 @@ body_field (EndedAck id start) = fields (id_field id ∷ u16_field start ∷ [])
 
 -- the version, the kind, the sender, the receiver, and the fields of the kind
 unfoldable pub spelling : Message → List ℕ
-spelling m = fields (u8_field 1 ∷ u8_field (kind_of m.body) ∷ u8_field m.from.0 ∷ u8_field m.to.0 ∷ body_field m.body ∷ [])
+spelling m = fields (u8_field 2 ∷ u8_field (kind_of m.body) ∷ u8_field m.from.0 ∷ u8_field m.to.0 ∷ body_field m.body ∷ [])

@@ -6,7 +6,7 @@ use Rattle.nqs_types.specs.declared.message.Body.{Body}
 use Rattle.nqs_types.specs.declared.message.Body.TheVariants.{Offer, Ready, Refused, Commit, Done, Inquire, Abort, Stage, Staged, Ask, Answer, Ended, EndedAck}
 use Rattle.nqs_types.specs.declared.message.Message.{Message}
 use Rattle.nqs_types.specs.declared.message.Tool.{Tool}
-use Rattle.nqs_rules.specs.Sane.{is_offer_refusal}
+use Rattle.nqs_rules.specs.Sane.{is_offer_refusal, is_sane_low}
 use Rattle.nqs_codec.specs.Takes.{IsLong}
 use Rattle.nqs_records.specs.Values.{is_at_most, IsU8, IsU16, IsU64, IsAny, IsList, IsHost, IsId, IsCarried}
 use Rattle.nqs_packets.specs.Parts.{is_number, is_word_count}
@@ -29,7 +29,8 @@ AreWords tool words = IsList (λ n. IsTrue (is_word_count tool n) × IsU16 n) Is
 
 -- the values of a kind are within their limits
 abbrev pub IsBody : Body → Type 0
-IsBody (Offer number queue carried script) = IsNumber number × IsName queue × IsCarried carried × IsShort 32768 script
+IsBody (Offer number low queue carried script) =
+    IsNumber number × IsTrue (is_sane_low low number) × IsName queue × IsCarried carried × IsShort 32768 script
 IsBody (Ready number) = IsNumber number
 IsBody (Refused number cause) = IsNumber number × IsCause cause
 IsBody (Commit number) = IsNumber number

@@ -7,8 +7,8 @@ ghost use Rattle.nqs_packets.specs.Bodies.{ended_at, ended_ack_at};
 
 use crate::part::{read_bytes, read_cause, read_number, read_short_bytes, read_tool, read_words};
 use nqs_records::{
-    RecordFault, read_bool, read_carried, read_id, read_name, read_path, read_u8, read_u16,
-    read_u64,
+    RecordFault, read_bool, read_carried, read_id, read_low, read_name, read_path, read_u8,
+    read_u16, read_u64,
 };
 use nqs_types::Body;
 use std::alloc::Global;
@@ -22,11 +22,13 @@ pub(crate) fn read_offer(
     ensures { Answers (offer_at bytes.now place) result }
 {
     let (number, place) = read_number(bytes, place)?;
+    let (low, place) = read_low(bytes, place, number)?;
     let (queue, place) = read_name(bytes, place)?;
     let (carried, place) = read_carried(alloc, bytes, place)?;
     let (script, place) = read_short_bytes(alloc, bytes, place, 32_768)?;
     let body = Body::Offer {
         number,
+        low,
         queue,
         carried,
         script,

@@ -1,7 +1,7 @@
 //! The datagrams between hosts, clients and shepherds: each message has exactly one spelling as
 //! bytes.
 //!
-//! A datagram is the version 1, the kind's number, the sender, the receiver (a byte each, the hosts
+//! A datagram is the version 2, the kind's number, the sender, the receiver (a byte each, the hosts
 //! below 16) and the fields of the kind, and nothing else (`specs/Spelling.antt` has the fields of
 //! each kind, `specs/Values.antt` the limits of the values). The fields are those of `nqs_records`;
 //! bytes go behind a length of four bytes.

@@ -27,6 +27,7 @@ pub(crate) fn put_number(number: u64, out: &mut Vec<u8>) -> Result<(), Memory>
 #[tactic(auto, using(crate::proofs::Joined::joined))]
 pub(crate) fn put_offer(
     number: u64,
+    low: u64,
     queue: &Name,
     carried: &Carried,
     script: &[u8],
@@ -34,10 +35,11 @@ pub(crate) fn put_offer(
 ) -> Result<(), Memory>
     requires carried { IsCarried carried.now }
     requires script { IsLong script.now }
-    ensures { Adds out.old.items (fields (u64_field number ∷ short_field queue.now ∷ carried_field carried.now ∷ bytes_field script.now ∷ [])) result
-        out.new.items }
+    ensures { Adds out.old.items (fields (u64_field number ∷ u64_field low ∷ short_field queue.now ∷ carried_field carried.now
+        ∷ bytes_field script.now ∷ [])) result out.new.items }
 {
     put_u64(number, out)?;
+    put_u64(low, out)?;
     put_name(queue, out)?;
     put_carried(carried, out)?;
     put_bytes(script, out)

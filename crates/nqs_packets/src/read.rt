@@ -75,7 +75,7 @@ fn read_packet(alloc: Global, bytes: &[u8]) -> Result<Message, PacketFault>
     ensures { AnswersPacket (message_of bytes.now) result }
 {
     let (version, place) = read_u8(bytes, 0)?;
-    if version != 1 {
+    if version != 2 {
         return Err(PacketFault::Version);
     }
     let message = read_rest(alloc, bytes, place)?;

@@ -44,10 +44,11 @@ fn put_body(body: &Body, out: &mut Vec<u8>) -> Result<(), Memory>
     match body {
         Body::Offer {
             number,
+            low,
             queue,
             carried,
             script,
-        } => put_offer(*number, queue, carried, script.as_slice(), out),
+        } => put_offer(*number, *low, queue, carried, script.as_slice(), out),
         Body::Ready { number } => put_number(*number, out),
         Body::Refused { number, cause } => put_refused(*number, *cause, out),
         Body::Commit { number } => put_number(*number, out),
@@ -102,7 +103,7 @@ fn put_message(message: &Message, out: &mut Vec<u8>) -> Result<(), Memory>
     requires { MaySend message.now }
     ensures { Adds out.old.items (spelling message.now) result out.new.items }
 {
-    put_u8(1, out)?;
+    put_u8(2, out)?;
     put_u8(kind_of(&message.body), out)?;
     put_u8(message.from.0, out)?;
     put_u8(message.to.0, out)?;

@@ -118,6 +118,7 @@ table =
     ∷ row k.Remove k.User (two_names (λ u q. of_access (access.RemoveUser u q)))
     ∷ row k.Remove k.Manager (name_value (λ u. of_access (access.RemoveManager u)))
     ∷ row k.Remove k.Operator (name_value (λ u. of_access (access.RemoveOperator u)))
+    ∷ row k.First k.Destination (dest_and_name (λ d q. of_conf (conf.FirstDestination d q)))
     ∷ row k.Hold k.Request (one_request (λ r. of_rows (rows.HoldRequest r)))
     ∷ row k.Release k.Request (one_request (λ r. of_rows (rows.ReleaseRequest r)))
     ∷ row k.Move k.Request (request_and_name (λ r q. of_rows (rows.MoveRequest r q)))
@@ -132,8 +133,8 @@ table =
 
 -- what a line begins with
 unfoldable pub verbs : List Keyword
-verbs = k.Abort ∷ k.Add ∷ k.Create ∷ k.Delete ∷ k.Disable ∷ k.Enable ∷ k.Hold ∷ k.Modify ∷ k.Move ∷ k.Purge ∷ k.Release ∷ k.Remove ∷ k.Set ∷ k.Show ∷ k.Shutdown
-    ∷ k.Start ∷ k.Stop ∷ []
+verbs = k.Abort ∷ k.Add ∷ k.Create ∷ k.Delete ∷ k.Disable ∷ k.Enable ∷ k.First ∷ k.Hold ∷ k.Modify ∷ k.Move ∷ k.Purge ∷ k.Release ∷ k.Remove ∷ k.Set ∷ k.Show
+    ∷ k.Shutdown ∷ k.Start ∷ k.Stop ∷ []
 
 -- a line has this verb
 abbrev pub is_of : Keyword → Line → Bool

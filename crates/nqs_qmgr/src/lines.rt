@@ -396,6 +396,19 @@ fn abort_line(line: &[u8], head: Head) -> Result<Command, GrammarFault>
     }
 }
 
+fn first_line(line: &[u8], head: Head) -> Result<Command, GrammarFault>
+    requires { FitsLine line.now head }
+    ensures { result ≡ read_shape (shape_of k.First head.keyword) line.now head }
+{
+    match head.keyword {
+        Keyword::Destination => {
+            let (destination, queue) = read_dest_and_name(line, head)?;
+            Ok(of_conf(ConfEdit::FirstDestination { destination, queue }))
+        }
+        _ => Err(GrammarFault::UnknownWord(head.word.start as u64)),
+    }
+}
+
 fn hold_line(line: &[u8], head: Head) -> Result<Command, GrammarFault>
     requires { FitsLine line.now head }
     ensures { result ≡ read_shape (shape_of k.Hold head.keyword) line.now head }
@@ -465,6 +478,7 @@ fn line_of(line: &[u8], head: Head, verb: Keyword) -> Result<Command, GrammarFau
         Keyword::Stop => stop_line(line, head),
         Keyword::Purge => purge_line(line, head),
         Keyword::Abort => abort_line(line, head),
+        Keyword::First => first_line(line, head),
         Keyword::Hold => hold_line(line, head),
         Keyword::Release => release_line(line, head),
         Keyword::Move => move_line(line, head),

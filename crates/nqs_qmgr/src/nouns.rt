@@ -5,13 +5,14 @@ ghost use Rattle.nqs_qmgr.specs.Lines.{nouns, verbs};
 
 use nqs_words::Keyword;
 
-static VERBS: [Keyword; 17] = [
+static VERBS: [Keyword; 18] = [
     Keyword::Abort,
     Keyword::Add,
     Keyword::Create,
     Keyword::Delete,
     Keyword::Disable,
     Keyword::Enable,
+    Keyword::First,
     Keyword::Hold,
     Keyword::Modify,
     Keyword::Move,
@@ -70,6 +71,8 @@ static OF_ADD: [Keyword; 6] = [
     Keyword::Operator,
 ];
 
+static OF_FIRST: [Keyword; 1] = [Keyword::Destination];
+
 static OF_REQUEST: [Keyword; 1] = [Keyword::Request];
 
 static OF_SHOW: [Keyword; 6] = [
@@ -121,6 +124,7 @@ pub(crate) fn nouns(verb: Keyword) -> &'static [Keyword]
         Keyword::Set => &OF_SET,
         Keyword::Add => &OF_ADD,
         Keyword::Remove => &OF_ADD,
+        Keyword::First => &OF_FIRST,
         Keyword::Hold => &OF_REQUEST,
         Keyword::Release => &OF_REQUEST,
         Keyword::Move => &OF_REQUEST,

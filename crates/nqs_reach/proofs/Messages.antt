@@ -1,7 +1,8 @@
 -- What one message makes of a state: it stays within reach of its sender.
 use Rattle.std.proofs.Common.{◌≡◌, ℕ, ◌+◌, ◌-◌, ◌≤◌, Bool, true, false, not, ◌||◌, ◌==◌, nat_lt, List, [], ◌∷◌, ◌++◌, map, filter, find, Option, None, Some}
 use Rattle.std.proofs.Common.{le_refl, option_map, Result, Ok, Err, true≢false, refl, sym, ap, subst, ◌∙◌, arith, if◌then◌else◌}
-use Rattle.std.proofs.lemmas.Bool.{and_parts, and_from, or_parts, or_from, or_left, or_right, not_from_true, false_from_ne_true}
+use Rattle.std.proofs.lemmas.Bool.{and_parts, and_from, and_left, or_parts, or_from, or_left, or_right, not-true, not_from_true, not_from_false}
+use Rattle.std.proofs.lemmas.Bool.{false_from_ne_true}
 use Rattle.std.proofs.lemmas.List.{append-nil}
 use Rattle.std.proofs.lemmas.List.Folds.{list_any-append}
 use Rattle.std.proofs.lemmas.Option.{same_Some, none-some}
@@ -34,10 +35,10 @@ use Rattle.nqs_rules.specs.Causes.{Cause, cause, first_refusal}
 use Rattle.nqs_rules.specs.Find.{has_row, find_row, has_promise, has_stage, find_hand, find_promise, find_peer, peer_number, has_queue, find_queue}
 use Rattle.nqs_rules.specs.Edits.{change_at, change_peer}
 use Rattle.nqs_rules.specs.Fits.{offer_full}
-use Rattle.nqs_rules.specs.Routing.{is_hand_to, close, dests_for, refusal_noted}
+use Rattle.nqs_rules.specs.Routing.{is_hand_to, close, raise_floor, dests_for, refusal_noted}
 use Rattle.nqs_rules.specs.Rows.{causes_of, arrivals_used}
-use Rattle.nqs_rules.specs.Applied.{is_offered_for, is_promise_of, committed, requeued_row, new_row, drop_hand, drop_promise, hand_committed}
-use Rattle.nqs_rules.specs.Applied.{hand_refused, promised, accepted, dropped, stage_got}
+use Rattle.nqs_rules.specs.Applied.{is_offered_for, is_promise_of, is_outlived, promises_from, committed, requeued_row, new_row, drop_hand}
+use Rattle.nqs_rules.specs.Applied.{drop_promise, hand_committed, hand_refused, promised, accepted, dropped, stage_got}
 use Rattle.nqs_rules.specs.InOrder.{are_distinct}
 use Rattle.nqs_rules.specs.Handover.{closes, was_given, is_not_given_here, named_of, offer_entry_causes, offer_causes, offer_by, on_offer, on_ready, on_refused}
 use Rattle.nqs_rules.specs.Handover.{on_commit, on_done, on_abort, ready_phase, ready_with, refused_phase, refused_with, commit_without, done_phase}
@@ -341,18 +342,20 @@ module _ {E : Type 0} where
     }
 
     -- an offer is promised, of a request that the host doesn't have
-    promise_made : (queue : List ℕ) (c : Carried) (script : E) → has_row c.id s ≡ false → Reached peer s (promised peer n queue c script s)
-    promise_made queue c script unknown = record {
-      within = promises_within s.rows promises (close (n - 1)) (s.arrivals + 1) refl
-          (kept_added (λ p. not (is_promise_of peer p)) (filter (λ p. not (is_promise_of peer p)) s.promises) new
+    promise_made : (low : ℕ) (queue : List ℕ) (c : Carried) (script : E) → has_row c.id s ≡ false → Reached peer s (promised peer n low queue c script s)
+    promise_made low queue c script unknown = record {
+      within = promises_within s.rows promises (raise_floor (low - 1)) (s.arrivals + 1) refl
+          (kept_added (λ p. not (is_promise_of peer p)) (promises_from peer low s.promises) new
           (not_from_true (is_promise_of peer new) (same_it peer.0))
-          ∙ kept_filter (λ p. not (is_promise_of peer p)) (λ p. not (is_promise_of peer p)) (λ p e. e) s.promises)
+          ∙ kept_filter (λ p. not (is_promise_of peer p)) (λ p. not (is_outlived peer low p))
+          (λ p e. not_from_false (is_outlived peer low p) (and_left (is_promise_of peer p) (nat_lt p.number low) (not-true (is_promise_of peer p) e)))
+          s.promises)
           (omega arith);
       out = λ id has out. let p = or_parts (list_any (is_offered_to peer id) s.hands) (list_any (is_promised_to peer id) s.promises) out in
           or_from (list_any (is_offered_to peer id) s.hands) (list_any (is_promised_to peer id) promises) p.0
-          (list_any-append (is_promised_to peer id) (filter (λ q. not (is_promise_of peer q)) s.promises) (new ∷ [])
-          ∙ or_from (list_any (is_promised_to peer id) (filter (λ q. not (is_promise_of peer q)) s.promises)) (is_promised_to peer id new || false)
-          (part_none (is_promised_to peer id) (filter_part (λ q. not (is_promise_of peer q)) s.promises) p.1)
+          (list_any-append (is_promised_to peer id) (promises_from peer low s.promises) (new ∷ [])
+          ∙ or_from (list_any (is_promised_to peer id) (promises_from peer low s.promises)) (is_promised_to peer id new || false)
+          (part_none (is_promised_to peer id) (filter_part (λ q. not (is_outlived peer low q)) s.promises) p.1)
           (or_from (is_promised_to peer id new) false (false_from_ne_true (is_promised_to peer id new) (λ e.
           let same : id ≡ c.id = id_exact id c.id (and_parts (is_promise_of peer new) (id_eq id c.id) e).1 in
           true≢false (sym has ∙ ap (λ i. has_row i s) same ∙ unknown))) refl));
@@ -367,7 +370,7 @@ module _ {E : Type 0} where
         new = record { peer = peer; number = n; row = new_row c queue (s.arrivals + 1) script }
 
         promises : List (Promise E)
-        promises = filter (λ p. not (is_promise_of peer p)) s.promises ++ new ∷ []
+        promises = promises_from peer low s.promises ++ new ∷ []
 
     -- no request comes into the peer's reach as a promise goes
     still_out : (id : RequestId) → is_in_reach peer s id ≡ false
@@ -461,24 +464,24 @@ module _ (peer : HostId) (s : Plain) where
   abbrev After : Stepped (List ℕ) → Type 0
   After x = Reached peer s (after_step x s)
 
-  offered : (n : ℕ) (queue : List ℕ) (c : Carried) (script : List ℕ) → After (on_offer peer n queue c script s)
-  offered n queue c script = by (closes n (find_peer peer s)) (has_promise peer n s)
+  offered : (n low : ℕ) (queue : List ℕ) (c : Carried) (script : List ℕ) → After (on_offer peer n low queue c script s)
+  offered n low queue c script = by (closes n (find_peer peer s)) (has_promise peer n s)
     where
       entry : List Cause
       entry = cause (not (has_queue queue s)) (NoQueue queue) ∷ causes_of (offer_entry_causes c) (find_queue queue s)
-          ++ cause (offer_full peer s) HostFull ∷ cause (arrivals_used s) NumbersUsed ∷ []
+          ++ cause (offer_full peer low s) HostFull ∷ cause (arrivals_used s) NumbersUsed ∷ []
 
-      taken : (r : Result (Unit {0}) Refusal) → has_row c.id s ≡ false → After (offer_by r peer n queue c script s)
+      taken : (r : Result (Unit {0}) Refusal) → has_row c.id s ≡ false → After (offer_by r peer n low queue c script s)
       taken (Err refusal) new = nothing peer n s
-      taken (Ok u) new = promise_made peer n s queue c script new
+      taken (Ok u) new = promise_made peer n s low queue c script new
 
       known : (b : Bool) → (has_row c.id s || is_not_given_here c.id s) ≡ b
-          → After (offer_by (first_refusal (cause b (RequestExists (named_of c.id s)) ∷ entry)) peer n queue c script s)
+          → After (offer_by (first_refusal (cause b (RequestExists (named_of c.id s)) ∷ entry)) peer n low queue c script s)
       known true e = nothing peer n s
       known false e = taken (first_refusal entry) (or_parts (has_row c.id s) (is_not_given_here c.id s) e).0
 
       by : (b d : Bool) → After (if b then says (send_done s peer n ∷ []) else (if d then says (send_ready s peer n ∷ []) else
-          offer_by (first_refusal (offer_causes peer queue c s)) peer n queue c script s))
+          offer_by (first_refusal (offer_causes peer low queue c s)) peer n low queue c script s))
       by true d = nothing peer n s
       by false true = nothing peer n s
       by false false = known (has_row c.id s || is_not_given_here c.id s) refl
@@ -569,7 +572,7 @@ module _ (peer : HostId) (s : Plain) where
 
   -- whatever the message is
   pub reached : (b : Body) → After (on_message peer b s)
-  reached (body.Offer n queue c script) = offered n queue c script
+  reached (body.Offer n low queue c script) = offered n low queue c script
   reached (body.Ready n) = readied n
   reached (body.Refused n refusal) = refused n refusal
   reached (body.Commit n) = commits n

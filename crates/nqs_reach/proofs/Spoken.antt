@@ -36,18 +36,18 @@ module _ (peer : HostId) (s : Plain) where
   back : same_host peer peer ≡ true
   back = same_it peer.0
 
-  offered : (n : ℕ) (queue : List ℕ) (c : Carried) (script : List ℕ) → Answers (on_offer peer n queue c script s)
-  offered n queue c script = by (closes n (find_peer peer s)) (has_promise peer n s)
+  offered : (n low : ℕ) (queue : List ℕ) (c : Carried) (script : List ℕ) → Answers (on_offer peer n low queue c script s)
+  offered n low queue c script = by (closes n (find_peer peer s)) (has_promise peer n s)
     where
-      taken : (r : Result (Unit {0}) Refusal) → Answers (offer_by r peer n queue c script s)
+      taken : (r : Result (Unit {0}) Refusal) → Answers (offer_by r peer n low queue c script s)
       taken (Err refusal) = back
       taken (Ok u) = back
 
       by : (b d : Bool) → Answers (if b then says (send_done s peer n ∷ []) else (if d then says (send_ready s peer n ∷ []) else
-          offer_by (first_refusal (offer_causes peer queue c s)) peer n queue c script s))
+          offer_by (first_refusal (offer_causes peer low queue c s)) peer n low queue c script s))
       by true d = back
       by false true = back
-      by false false = taken (first_refusal (offer_causes peer queue c s))
+      by false false = taken (first_refusal (offer_causes peer low queue c s))
 
   readied : (n : ℕ) → Answers (on_ready peer n s)
   readied n = of (find_hand peer n s)
@@ -127,7 +127,7 @@ module _ (peer : HostId) (s : Plain) where
 
   -- whatever the message is
   pub answered : (b : Body) → Answers (on_message peer b s)
-  answered (body.Offer n queue c script) = offered n queue c script
+  answered (body.Offer n low queue c script) = offered n low queue c script
   answered (body.Ready n) = readied n
   answered (body.Refused n refusal) = refused n refusal
   answered (body.Commit n) = commits n

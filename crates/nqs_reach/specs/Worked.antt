@@ -88,7 +88,7 @@ file number = record { number = number; path = codes "out"; bytes = codes "done"
 
 -- what alpha knows of each host
 abbrev pub known : Peer
-known = record new_peer { next = 4; closed = 4; stage_next = 2 }
+known = record new_peer { next = 4; floor = 4; stage_next = 2 }
 
 -- the request that alpha offers to beta
 abbrev pub going : Row (List ℕ)

@@ -28,7 +28,7 @@ use Rattle.nqs_rules.specs.Find.{find_queue, find_peer}
 use Rattle.nqs_rules.specs.InOrder.{IsInOrder, is_dest_right, is_queue_right}
 use Rattle.nqs_rules.specs.Order.{below, is_active_in, is_active_of, runs_in_batch, complex_allows, kind_allows}
 use Rattle.nqs_rules.specs.Picked.{PlainRow}
-use Rattle.nqs_rules.specs.Routing.{is_hand_to, has_number_left, is_over_wait, refuses, is_reachable, may_try, destination}
+use Rattle.nqs_rules.specs.Routing.{low, has_number_left, has_room_for_hand, is_within_window, is_over_wait, refuses, is_reachable, may_try, destination}
 use Rattle.nqs_rules.proofs.ListFacts.{list_all-found}
 use Rattle.nqs_rules.proofs.KeyFacts.{any_found, all_get}
 use Rattle.nqs_rules.proofs.QueuesOrder.{queue_is}
@@ -36,7 +36,7 @@ use Rattle.nqs_rules.proofs.StateFacts.{sites_are}
 use Rattle.nqs_types.specs.declared.reason.Reason.{Reason}
 use Rattle.nqs_types.specs.declared.reason.Reason.TheVariants.{NoDestination}
 use Rattle.nqs_types.specs.declared.reason.DestAnswer.{DestAnswer}
-use Rattle.nqs_types.specs.declared.reason.DestAnswer.TheVariants.{NoHost, NoNumberLeft, HandingOver, WaitedFor, MayBeTried}
+use Rattle.nqs_types.specs.declared.reason.DestAnswer.TheVariants.{NoHost, NoNumberLeft, HandingOver, NotSettled, WaitedFor, MayBeTried}
 use Rattle.nqs_rules.specs.Reasons.{first_failing, state_reason, hold_reason, complex_condition, global_condition, kind_conditions, conditions, next_in}
 use Rattle.nqs_rules.specs.Reasons.{reason_in, reason_of}
 use Rattle.nqs_rules.specs.Answers.{refusal_conditions, peer_conditions, host_conditions, answer_of}
@@ -66,17 +66,19 @@ some_place t vs = some (position_or_len t vs) (nat_lt (position_or_len t vs) (le
 -- the answer of a destination, and whether it may be tried
 module _ (now : ℕ) (s : Plain) (r : PlainRow) where
   peer_free : (host : HostId) (o : Option Peer) → may_be_tried (first_failing (peer_conditions o host now s) MayBeTried)
-      ≡ ((not (list_any (is_hand_to host) s.hands) && passes has_number_left o) && passes (is_over_wait now) o)
-  peer_free host None = sym (and-false (not (list_any (is_hand_to host) s.hands) && false))
-  peer_free host (Some p) = by (has_number_left p) (not (list_any (is_hand_to host) s.hands)) (is_over_wait now p)
+      ≡ ((has_room_for_hand host s && passes has_number_left o && passes (is_within_window host s) o) && passes (is_over_wait now) o)
+  peer_free host None = sym (and-false (has_room_for_hand host s && false && false))
+  peer_free host (Some p) = by (has_number_left p) (has_room_for_hand host s) (is_within_window host s p) (is_over_wait now p)
     where
-      by : (n h w : Bool) → may_be_tried (if n then (if h then (if w then MayBeTried else WaitedFor p.wait) else HandingOver) else NoNumberLeft)
-          ≡ ((h && n) && w)
-      by true true true = refl
-      by true true false = refl
-      by true false w = refl
-      by false true w = refl
-      by false false w = refl
+      by : (n h i w : Bool) → may_be_tried (if n then (if h then (if i then (if w then MayBeTried else WaitedFor p.wait)
+          else NotSettled (low host p.next s.hands)) else HandingOver) else NoNumberLeft)
+          ≡ ((h && n && i) && w)
+      by true true true true = refl
+      by true true true false = refl
+      by true true false w = refl
+      by true false i w = refl
+      by false true i w = refl
+      by false false i w = refl
 
   host_free : (host : HostId) (b : Bool)
       → may_be_tried (first_failing (if b then [] else peer_conditions (find_peer host s) host now s) MayBeTried) ≡ (b || is_reachable now host s)

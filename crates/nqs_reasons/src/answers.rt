@@ -8,7 +8,7 @@ ghost use Rattle.nqs_rules.specs.Reasons.{first_failing};
 ghost use Rattle.nqs_rules.specs.Answers.{peer_conditions, host_conditions, answer_of};
 ghost use Rattle.nqs_types.specs.declared.reason.DestAnswer.TheVariants.{MayBeTried};
 
-use nqs_routing::{find_peer, has_hand_to, refuses};
+use nqs_routing::{find_peer, has_room_for_hand, is_within_window, low, refuses};
 use nqs_state::HostState;
 use nqs_types::{Dest, DestAnswer, HostId, Peer, Refused, Row};
 
@@ -26,8 +26,11 @@ fn of_peer(state: &HostState, host: HostId, known: &Peer, now: u64) -> DestAnswe
     if known.next == u64::MAX {
         return DestAnswer::NoNumberLeft;
     }
-    if has_hand_to(state, host) {
+    if !has_room_for_hand(state, host) {
         return DestAnswer::HandingOver;
+    }
+    if !is_within_window(state, host, known) {
+        return DestAnswer::NotSettled(low(state, host, known.next));
     }
     if now < known.wait {
         return DestAnswer::WaitedFor(known.wait);

@@ -164,7 +164,14 @@ pub fn put_answer(alloc: Global, answer: &DestAnswer, out: &mut Vec<u8>) -> Resu
         }
         DestAnswer::NoHost => put_text(b"no such host", out),
         DestAnswer::NoNumberLeft => put_text(b"all numbers are used", out),
-        DestAnswer::HandingOver => put_text(b"its host is being handed another request", out),
+        DestAnswer::HandingOver => put_text(b"its host is being handed eight requests", out),
+        DestAnswer::NotSettled(number) => put_count(
+            alloc,
+            b"its host has not settled handover ",
+            *number,
+            b"",
+            out,
+        ),
         DestAnswer::WaitedFor(moment) => {
             put_moment(alloc, b"its host is waited for until ", *moment, out)
         }

@@ -3,10 +3,11 @@ use Rattle.std.proofs.Common.{ℕ, ◌<◌, ◌^◌, ◌==◌, IsTrue, refl, ari
 use Rattle.std.proofs.lemmas.Bool.Decides.{nat_tests}
 use Rattle.nqs_base.specs.Name.{IsName}
 use Rattle.nqs_types.specs.declared.ids.HostId.{HostId}
-use Rattle.nqs_codec.specs.Fields.{u8_field, u32_field, short_field}
+use Rattle.nqs_codec.specs.Fields.{u8_field, u32_field, u64_field, short_field}
+use Rattle.nqs_rules.specs.Sane.{is_sane_low}
 use Rattle.nqs_records.specs.Reading.{within, counted}
 use Rattle.nqs_records.specs.Fields.{u8_at, name_at}
-use Rattle.nqs_records.specs.Parts.{host_at, seq_at, id_at, extent_at, job_of, job_at, carried_at, part_at, hand_at}
+use Rattle.nqs_records.specs.Parts.{host_at, seq_at, id_at, extent_at, job_of, job_at, carried_at, part_at, hand_at, low_at}
 use Rattle.nqs_records.specs.Spelling.{list_field, id_field, extent_field, job_field, carried_field, part_field, hand_field}
 use Rattle.nqs_records.specs.Values.{is_host, is_seq, is_at_most, is_site_count, IsU8, IsList, IsHost, IsId, IsExtent, IsJob, IsCarried, IsPart, IsHand}
 use Rattle.nqs_records.proofs.IsRead.{IsRead}
@@ -40,6 +41,9 @@ lost_fits starts lost few same = grind (arith, nat_tests)
 
 count_fits : (me : HostId) (n : ℕ) → IsTrue (is_site_count me n) → n < 2 ^ 8
 count_fits me n is = grind (arith, nat_tests)
+
+low_fits : (number low : ℕ) → number < 2 ^ 64 → IsTrue (is_sane_low low number) → low < 2 ^ 64
+low_fits number low fits is = grind (arith, nat_tests)
 
 pub host_law : IsRead IsHost (λ h. u8_field h.0) host_at
 unfolding host_at
@@ -111,6 +115,10 @@ unfolding hand_at hand_field
 hand_law =
     mapped_read IsHand hand_field (λ v. record { peer = v.0; number = v.1 }) (λ h. (h.peer, h.number)) (λ h. refl) (λ v is. is) (λ h is. is) (λ v. refl)
     (both_read host_law (λ _ _. last_read u64_read))
+
+pub low_law : (number : ℕ) → number < 2 ^ 64 → IsRead (λ low. IsTrue (is_sane_low low number)) u64_field (low_at number)
+unfolding low_at
+low_law number fits = within_read (λ low. is_sane_low low number) (λ low is. low_fits number low fits is) u64_read
 
 -- ---- lists
 

@@ -9,7 +9,7 @@ use Rattle.nqs_types.specs.declared.ids.RequestId.{RequestId}
 use Rattle.nqs_types.specs.declared.request.Job.{Job}
 use Rattle.nqs_types.specs.declared.request.Carried.{Carried}
 use Rattle.nqs_types.specs.declared.change.OutPart.{OutPart}
-use Rattle.nqs_types.specs.declared.change.Change.TheVariants.{Submitted, Ended, Promised, StageGot}
+use Rattle.nqs_types.specs.declared.change.Change.TheVariants.{Submitted, Ended, OldPromised, Promised, StageGot}
 use Rattle.nqs_records.specs.Spelling.{fields, extent_field, id_field, job_field, carried_field, part_field, list_field}
 use Rattle.nqs_records.specs.Changes.{spelling}
 use Rattle.nqs_records.specs.Extents.{parts_with}
@@ -43,12 +43,21 @@ module _ (queue : List ℕ) (job : Job) where
   submitted_ends x = ends (u8_field 2 ∷ short_field queue ∷ job_field job ∷ []) (extent_field x)
 
 module _ (peer : HostId) (number : ℕ) (queue : List ℕ) (carried : Carried) where
-  abbrev pub promised_front : List ℕ
-  promised_front = fields (u8_field 15 ∷ u8_field peer.0 ∷ u64_field number ∷ short_field queue ∷ carried_field carried ∷ [])
+  abbrev pub old_promised_front : List ℕ
+  old_promised_front = fields (u8_field 15 ∷ u8_field peer.0 ∷ u64_field number ∷ short_field queue ∷ carried_field carried ∷ [])
 
-  pub promised_ends : (x : Extent) → spelling (Promised peer number queue carried x) ≡ promised_front ++ extent_field x ++ []
+  pub old_promised_ends : (x : Extent) → spelling (OldPromised peer number queue carried x) ≡ old_promised_front ++ extent_field x ++ []
   unfolding spelling
-  promised_ends x = ends (u8_field 15 ∷ u8_field peer.0 ∷ u64_field number ∷ short_field queue ∷ carried_field carried ∷ []) (extent_field x)
+  old_promised_ends x = ends (u8_field 15 ∷ u8_field peer.0 ∷ u64_field number ∷ short_field queue ∷ carried_field carried ∷ []) (extent_field x)
+
+module _ (peer : HostId) (number low : ℕ) (queue : List ℕ) (carried : Carried) where
+  abbrev pub promised_front : List ℕ
+  promised_front = fields (u8_field 24 ∷ u8_field peer.0 ∷ (u64_field number ++ u64_field low) ∷ short_field queue ∷ carried_field carried ∷ [])
+
+  pub promised_ends : (x : Extent) → spelling (Promised peer number low queue carried x) ≡ promised_front ++ extent_field x ++ []
+  unfolding spelling
+  promised_ends x =
+      ends (u8_field 24 ∷ u8_field peer.0 ∷ (u64_field number ++ u64_field low) ∷ short_field queue ∷ carried_field carried ∷ []) (extent_field x)
 
 module _ (peer : HostId) (number : ℕ) (path : List ℕ) where
   abbrev pub got_front : List ℕ

@@ -11,7 +11,7 @@ use Rattle.nqs_types.specs.declared.request.Job.{Job}
 use Rattle.nqs_types.specs.declared.request.Carried.{Carried}
 use Rattle.nqs_types.specs.declared.change.OutPart.{OutPart}
 use Rattle.nqs_types.specs.declared.change.Change.TheVariants.{Site, Submitted, Ended, Edited}
-use Rattle.nqs_types.specs.declared.change.Change.TheVariants.{Promised}
+use Rattle.nqs_types.specs.declared.change.Change.TheVariants.{OldPromised, Promised}
 use Rattle.nqs_types.specs.declared.change.Change.TheVariants.{StageGot}
 use Rattle.nqs_types.specs.declared.edit.Edit.{Edit}
 use Rattle.nqs_types.specs.declared.edit.Edit.TheVariants.{Conf, Limits as LimitsOf, Access as AccessOf, Devices as DevicesOf, Rows as RowsOf}
@@ -106,6 +106,7 @@ what_may_stand_is_sane (Site me site) ok = site_sane me (length site) ok.1.0
 what_may_stand_is_sane (Submitted queue job script) ok = job_sane job ok.1
 what_may_stand_is_sane (Ended id outputs) ok = and_from _ _ ok.1.0 (parts_sane outputs ok.1.1)
 what_may_stand_is_sane (Edited edit) ok = edit_sane edit ok
-what_may_stand_is_sane (Promised peer number queue carried script) ok = carried_sane carried ok.3
+what_may_stand_is_sane (OldPromised peer number queue carried script) ok = carried_sane carried ok.3
+what_may_stand_is_sane (Promised peer number low queue carried script) ok = and_from _ _ ok.1.1 (carried_sane carried ok.3)
 what_may_stand_is_sane (StageGot peer number path bytes) ok = path_sane path ok.2
 what_may_stand_is_sane change ok = refl

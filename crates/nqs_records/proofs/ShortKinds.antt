@@ -6,11 +6,11 @@ use Rattle.nqs_base.specs.Name.{IsName}
 use Rattle.nqs_base.specs.declared.extent.Extent.{Extent}
 use Rattle.nqs_types.specs.declared.ids.HostId.{HostId}
 use Rattle.nqs_types.specs.declared.change.Change.{Change}
-use Rattle.nqs_codec.specs.Fields.{u8_field, short_field}
+use Rattle.nqs_codec.specs.Fields.{u8_field, u64_field, short_field}
 use Rattle.nqs_records.specs.Spelling.{list_field, part_field, hand_field}
 use Rattle.nqs_records.specs.Values.{is_site_count, IsPart, IsHand}
 use Rattle.nqs_records.specs.KindFields.{Field, one_byte, eight_bytes, a_name, a_path, maybe, a_host, an_id, an_extent, a_job, a_carried, a_site, an_edit}
-use Rattle.nqs_records.specs.KindFields.{outputs, handovers, IsValue, value_field}
+use Rattle.nqs_records.specs.KindFields.{outputs, handovers, with_low, IsValue, value_field}
 use Rattle.nqs_records.specs.KindTable.{kinds, hand_kinds, host_kinds}
 use Rattle.nqs_records.specs.Changes.{spelling, MayStand}
 use Rattle.nqs_records.proofs.KindLaws.{kinds_agree, spelled, limited}
@@ -36,6 +36,7 @@ most a_site = 258
 most an_edit = 1000
 most outputs = 537
 most handovers = 2305
+most with_low = 16
 
 few_hosts : (me : HostId) (n : ℕ) → is_site_count me n ≡ true → n ≤ 16
 few_hosts me n few = leb-true n 16 (and_parts (nat_le 1 n) (nat_le n 16) (and_parts (nat_le 1 n && nat_le n 16) (nat_lt me.0 n) few).0).1
@@ -58,6 +59,7 @@ fields_short an_edit e is = edit_short e is
 fields_short outputs parts is = list_short IsPart part_field 268 part_short parts 2 is.1 (leb-true (length parts) 2 is.0)
 fields_short handovers hands is =
     list_short IsHand hand_field 9 hand_short hands 256 is.1 (let few : length hands < 256 = is.0 in omega arith)
+fields_short with_low v is = omega (arith, length-append (u64_field v.0) (u64_field v.1), length-u64 v.0, length-u64 v.1)
 
 -- no row's fields take more than 65535 bytes
 rows_short : AllByRecursion (IsShort most 65535) kinds

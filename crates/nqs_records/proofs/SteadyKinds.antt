@@ -2,14 +2,14 @@
 use Rattle.std.proofs.Common.{◌≡◌, ℕ, true, false}
 use Rattle.nqs_records.specs.Tables.{by_code}
 use Rattle.nqs_records.specs.KindFields.{Field, one_byte, eight_bytes, a_name, a_path, maybe, a_host, an_id, an_extent, a_job, a_carried, a_site, an_edit}
-use Rattle.nqs_records.specs.KindFields.{outputs, handovers, value_at}
+use Rattle.nqs_records.specs.KindFields.{outputs, handovers, with_low, value_at}
 use Rattle.nqs_records.specs.KindTable.{kinds}
 use Rattle.nqs_records.specs.Kinds.{no_kind}
 use Rattle.nqs_records.specs.Faults.{is_kind}
 use Rattle.nqs_records.proofs.Steady.{IsSteady, both_steady}
 use Rattle.nqs_records.proofs.SteadyFields.{u8_steady, u64_steady, opt_steady}
 use Rattle.nqs_records.proofs.SteadyNames.{name_steady, path_steady}
-use Rattle.nqs_records.proofs.SteadyParts.{host_steady, id_steady, extent_steady, job_steady, carried_steady, site_steady, parts_steady, hands_steady}
+use Rattle.nqs_records.proofs.SteadyParts.{host_steady, id_steady, extent_steady, job_steady, carried_steady, site_steady, parts_steady, hands_steady, low_steady}
 use Rattle.nqs_records.proofs.SteadyEdits.{edit_steady}
 use Rattle.nqs_records.proofs.SteadyTables.{no_row, table_steady}
 
@@ -28,6 +28,7 @@ field_steady a_site = both_steady _ _ host_steady site_steady
 field_steady an_edit = edit_steady
 field_steady outputs = parts_steady
 field_steady handovers = hands_steady
+field_steady with_low = both_steady _ _ u64_steady low_steady
 
 pub kind_steady : (kind : ℕ) → is_kind kind ≡ true → IsSteady (by_code value_at kinds kind no_kind)
 unfolding is_kind

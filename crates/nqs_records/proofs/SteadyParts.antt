@@ -1,11 +1,12 @@
 -- What records are made of is read the same whatever follows.
+use Rattle.std.proofs.Common.{ℕ}
 use Rattle.nqs_types.specs.declared.ids.HostId.{HostId}
 use Rattle.nqs_records.specs.Reading.{counted, within}
 use Rattle.nqs_records.specs.Fields.{u8_at, name_at}
 use Rattle.nqs_records.specs.Values.{is_site_count, is_at_most}
-use Rattle.nqs_records.specs.Parts.{host_at, seq_at, id_at, extent_at, job_at, carried_at, part_at, hand_at}
+use Rattle.nqs_records.specs.Parts.{host_at, seq_at, id_at, extent_at, job_at, carried_at, part_at, hand_at, low_at}
 use Rattle.nqs_records.proofs.Steady.{IsSteady, mapped_steady, both_steady, within_steady, counted_steady}
-use Rattle.nqs_records.proofs.SteadyFields.{u8_steady, u16_steady, u32_steady, u64_steady, u8_some, u16_some, u32_some, bool_steady, opt_steady}
+use Rattle.nqs_records.proofs.SteadyFields.{u8_steady, u16_steady, u32_steady, u64_steady, u8_some, u16_some, u32_some, u64_some, bool_steady, opt_steady}
 use Rattle.nqs_records.proofs.SteadyNames.{name_steady, path_steady}
 
 pub host_steady : IsSteady host_at
@@ -47,6 +48,10 @@ part_steady = mapped_steady _ _ (both_steady _ _ path_steady (λ _. extent_stead
 hand_steady : IsSteady hand_at
 unfolding hand_at
 hand_steady = mapped_steady _ _ (both_steady _ _ host_steady (λ _. u64_steady))
+
+pub low_steady : (number : ℕ) → IsSteady (low_at number)
+unfolding low_at
+low_steady number = within_steady _ _ u64_some u64_steady
 
 pub site_steady : (me : HostId) → IsSteady (counted (within (is_site_count me) u8_at) name_at)
 site_steady me = counted_steady _ _ (within_steady _ _ u8_some u8_steady) name_steady

@@ -5,7 +5,7 @@ use Rattle.nqs_types.specs.declared.edit.Edit.{Edit}
 use Rattle.nqs_types.specs.declared.edit.Edit.TheVariants.{Conf, Limits as LimitsOf, Access as AccessOf, Devices as DevicesOf, Rows as RowsOf}
 use Rattle.nqs_types.specs.declared.edit.ConfEdit.{ConfEdit}
 use Rattle.nqs_types.specs.declared.edit.ConfEdit.TheVariants.{CreateBatchQueue, CreateDeviceQueue, CreatePipeQueue, DeleteQueue, EnableQueue, DisableQueue}
-use Rattle.nqs_types.specs.declared.edit.ConfEdit.TheVariants.{StartQueue, StopQueue, PurgeQueue, SetPriority, SetRunLimit, AddDestination, RemoveDestination}
+use Rattle.nqs_types.specs.declared.edit.ConfEdit.TheVariants.{StartQueue, StopQueue, PurgeQueue, SetPriority, SetRunLimit, AddDestination, RemoveDestination, FirstDestination}
 use Rattle.nqs_types.specs.declared.edit.ConfEdit.TheVariants.{SetDefaultQueue, SetNoDefaultQueue, SetPatience, SetRetryWait}
 use Rattle.nqs_types.specs.declared.edit.LimitsEdit.{LimitsEdit}
 use Rattle.nqs_types.specs.declared.edit.LimitsEdit.TheVariants.{SetUserLimit, SetCpuLimit, SetMemoryLimit, CreateComplex, DeleteComplex, AddQueue, RemoveQueue}
@@ -95,6 +95,7 @@ setting_part =
     ∷ row 40 [] (λ _. Conf SetNoDefaultQueue)
     ∷ row 41 (a_wait ∷ []) (λ seconds. Conf (SetPatience seconds))
     ∷ row 42 (a_wait ∷ []) (λ seconds. Conf (SetRetryWait seconds))
+    ∷ row 54 (a_dest ∷ a_name ∷ []) (λ v. Conf (FirstDestination v.0 v.1))
     ∷ []
 
 -- the edits of queues
@@ -166,6 +167,7 @@ conf_entry (SetDefaultQueue queue) = entry 39 queue
 conf_entry SetNoDefaultQueue = entry 40 tt
 conf_entry (SetPatience seconds) = entry 41 seconds
 conf_entry (SetRetryWait seconds) = entry 42 seconds
+conf_entry (FirstDestination destination queue) = entry 54 (destination, queue)
 
 -- the code and the values of an edit of limits and complexes
 abbrev pub limits_entry : LimitsEdit → Entry ValueOf

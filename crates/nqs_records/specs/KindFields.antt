@@ -12,13 +12,14 @@ use Rattle.nqs_types.specs.declared.request.Carried.{Carried}
 use Rattle.nqs_types.specs.declared.change.OutPart.{OutPart}
 use Rattle.nqs_types.specs.declared.edit.Edit.{Edit}
 use Rattle.nqs_codec.specs.Fields.{u8_field, u64_field, short_field}
+use Rattle.nqs_rules.specs.Sane.{is_sane_low}
 use Rattle.nqs_records.specs.Values.{is_at_most, is_site_count, IsU8, IsU64, IsOpt, IsList, IsHost, IsId, IsExtent, IsJob, IsCarried, IsPart, IsHand}
 use Rattle.nqs_records.specs.EditValues.{IsEdit}
 use Rattle.nqs_records.specs.Spelling.{opt_field, list_field, id_field, extent_field, job_field, carried_field, part_field, hand_field}
 use Rattle.nqs_records.specs.EditSpelling.{edit_field}
 use Rattle.nqs_records.specs.Reading.{Reading, both, within, counted}
 use Rattle.nqs_records.specs.Fields.{u8_at, u64_at, opt_at, name_at, path_at}
-use Rattle.nqs_records.specs.Parts.{host_at, id_at, extent_at, job_at, carried_at, part_at, hand_at}
+use Rattle.nqs_records.specs.Parts.{host_at, id_at, extent_at, job_at, carried_at, part_at, hand_at, low_at}
 use Rattle.nqs_records.specs.Edits.{edit_at}
 
 -- a field of a change
@@ -51,6 +52,8 @@ pub data Field : Type 0 where
   outputs : Field
   -- handovers
   handovers : Field
+  -- the number of a handover, and its low
+  with_low : Field
 
 -- what stands in a field
 abbrev pub ValueOf : Field → Type 0
@@ -68,6 +71,7 @@ ValueOf a_site = HostId × List (List ℕ)
 ValueOf an_edit = Edit
 ValueOf outputs = List (OutPart Extent)
 ValueOf handovers = List PeerNumber
+ValueOf with_low = ℕ × ℕ
 
 -- a value is within its field's limits
 abbrev pub IsValue : (f : Field) → ValueOf f → Type 0
@@ -85,6 +89,7 @@ IsValue a_site v = IsHost v.0 × IsList (λ n. IsTrue (is_site_count v.0 n)) IsN
 IsValue an_edit e = IsEdit e
 IsValue outputs parts = IsList (λ n. IsTrue (is_at_most 2 n)) IsPart parts
 IsValue handovers hands = IsList IsU8 IsHand hands
+IsValue with_low v = IsU64 v.0 × IsTrue (is_sane_low v.1 v.0)
 
 -- how it is spelled
 abbrev pub value_field : (f : Field) → ValueOf f → List ℕ
@@ -102,6 +107,7 @@ value_field a_site v = u8_field v.0.0 ++ list_field short_field v.1
 value_field an_edit e = edit_field e
 value_field outputs parts = list_field part_field parts
 value_field handovers hands = list_field hand_field hands
+value_field with_low v = u64_field v.0 ++ u64_field v.1
 
 -- how it is read
 abbrev pub value_at : (f : Field) → Reading (ValueOf f)
@@ -119,3 +125,4 @@ value_at a_site = both host_at (λ me. counted (within (is_site_count me) u8_at)
 value_at an_edit = edit_at
 value_at outputs = counted (within (is_at_most 2) u8_at) part_at
 value_at handovers = counted u8_at hand_at
+value_at with_low = both u64_at low_at

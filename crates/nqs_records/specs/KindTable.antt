@@ -4,11 +4,11 @@ use Rattle.std.specs.Prelude.{ℕ, List, [], ◌∷◌, ◌++◌}
 use Rattle.nqs_base.specs.declared.extent.Extent.{Extent}
 use Rattle.nqs_types.specs.declared.change.Change.{Change}
 use Rattle.nqs_types.specs.declared.change.Change.TheVariants.{Site, Submitted, Deleted, Doomed, Started, Ended, Unlaunched, Boot, Edited, HandOpened}
-use Rattle.nqs_types.specs.declared.change.Change.TheVariants.{HandCommitted, HandRefused, HandsSilent, HandDone, Promised, Accepted, Dropped, MovedLocal}
+use Rattle.nqs_types.specs.declared.change.Change.TheVariants.{HandCommitted, HandRefused, HandsSilent, HandDone, OldPromised, Promised, Accepted, Dropped, MovedLocal}
 use Rattle.nqs_types.specs.declared.change.Change.TheVariants.{RefusedLocal, HeldFar, StageGot, StageGone, FileGone}
 use Rattle.nqs_records.specs.Tables.{Values, Row, Entry, shape_of}
 use Rattle.nqs_records.specs.KindFields.{Field, ValueOf, one_byte, eight_bytes, a_name, a_path, maybe, a_host, an_id, an_extent, a_job, a_carried, a_site}
-use Rattle.nqs_records.specs.KindFields.{an_edit, outputs, handovers}
+use Rattle.nqs_records.specs.KindFields.{an_edit, outputs, handovers, with_low}
 
 -- a change of a host
 abbrev pub HostChange : Type 0
@@ -37,11 +37,12 @@ hand_part =
     ∷ row 12 (a_host ∷ eight_bytes ∷ one_byte ∷ []) (λ v. HandRefused v.0 v.1.0 v.1.1)
     ∷ row 13 (eight_bytes ∷ handovers ∷ []) (λ v. HandsSilent v.0 v.1)
     ∷ row 14 (a_host ∷ eight_bytes ∷ []) (λ v. HandDone v.0 v.1)
-    ∷ row 15 (a_host ∷ eight_bytes ∷ a_name ∷ a_carried ∷ an_extent ∷ []) (λ v. Promised v.0 v.1.0 v.1.1.0 v.1.1.1.0 v.1.1.1.1)
+    ∷ row 15 (a_host ∷ eight_bytes ∷ a_name ∷ a_carried ∷ an_extent ∷ []) (λ v. OldPromised v.0 v.1.0 v.1.1.0 v.1.1.1.0 v.1.1.1.1)
     ∷ row 16 (a_host ∷ eight_bytes ∷ []) (λ v. Accepted v.0 v.1)
     ∷ row 17 (a_host ∷ eight_bytes ∷ []) (λ v. Dropped v.0 v.1)
     ∷ row 21 (a_host ∷ eight_bytes ∷ a_path ∷ an_extent ∷ []) (λ v. StageGot v.0 v.1.0 v.1.1.0 v.1.1.1)
     ∷ row 22 (a_host ∷ eight_bytes ∷ []) (λ v. StageGone v.0 v.1)
+    ∷ row 24 (a_host ∷ with_low ∷ a_name ∷ a_carried ∷ an_extent ∷ []) (λ v. Promised v.0 v.1.0.0 v.1.0.1 v.1.1.0 v.1.1.1.0 v.1.1.1.1)
     ∷ []
 
 -- changes of requests
@@ -98,8 +99,10 @@ kind_entry (HandCommitted peer number) = entry 11 (peer, number)
 kind_entry (HandRefused peer number cause) = entry 12 (peer, (number, cause))
 kind_entry (HandsSilent until hands) = entry 13 (until, hands)
 kind_entry (HandDone peer number) = entry 14 (peer, number)
-kind_entry (Promised peer number queue carried script) =
+kind_entry (OldPromised peer number queue carried script) =
     entry 15 (peer, (number, (queue, (carried, script))))
+kind_entry (Promised peer number low queue carried script) =
+    entry 24 (peer, ((number, low), (queue, (carried, script))))
 kind_entry (Accepted peer number) = entry 16 (peer, number)
 kind_entry (Dropped peer number) = entry 17 (peer, number)
 kind_entry (MovedLocal id queue) = entry 18 (id, queue)

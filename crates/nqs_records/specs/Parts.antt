@@ -6,6 +6,7 @@ use Rattle.nqs_types.specs.declared.ids.PeerNumber.{PeerNumber}
 use Rattle.nqs_types.specs.declared.ids.Named.{Named}
 use Rattle.nqs_types.specs.declared.ids.NamedDest.{NamedDest}
 use Rattle.nqs_rules.specs.Conf.{is_wait}
+use Rattle.nqs_rules.specs.Sane.{is_sane_low}
 use Rattle.nqs_base.specs.declared.extent.Extent.{Extent}
 use Rattle.nqs_types.specs.declared.request.Job.{Job}
 use Rattle.nqs_types.specs.declared.request.Carried.{Carried}
@@ -37,6 +38,10 @@ host_at = mapped (λ n. record { 0 = n }) (within is_host u8_at)
 -- the number of a request, from 1 on
 unfoldable pub seq_at : Reading ℕ
 seq_at = within is_seq u32_at
+
+-- the low behind the number of a handover, from 1 to that number
+unfoldable pub low_at : ℕ → Reading ℕ
+low_at number = within (λ low. is_sane_low low number) u64_at
 
 -- a request: its number, and the host of its submission
 unfoldable pub id_at : Reading RequestId

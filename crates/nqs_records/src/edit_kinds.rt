@@ -140,6 +140,13 @@ fn read_setting_edit(
             let (seconds, place) = read_one_wait(bytes, place)?;
             Ok((Edit::Conf(ConfEdit::SetRetryWait { seconds }), place))
         }
+        54 => {
+            let ((destination, queue), place) = read_dest_and_name(bytes, place)?;
+            Ok((
+                Edit::Conf(ConfEdit::FirstDestination { destination, queue }),
+                place,
+            ))
+        }
         _ => read_limits_edit(code, bytes, place, at),
     }
 }

@@ -61,6 +61,7 @@ pub fn put_extents(change: &Change, text: &mut [u8])
         Change::Ended { outputs, .. } => {
             let _count = put_part_extents(outputs.as_slice(), text);
         }
+        Change::OldPromised { script, .. } => put_extent(text, 0, *script),
         Change::Promised { script, .. } => put_extent(text, 0, *script),
         Change::StageGot { bytes, .. } => put_extent(text, 0, *bytes),
         _ => {}

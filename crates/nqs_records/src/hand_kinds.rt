@@ -3,7 +3,7 @@
 ghost use Rattle.std.specs.Prelude.{◌≡◌, ◌∷◌, []};
 ghost use Rattle.nqs_records.specs.Reading.{Answers};
 ghost use Rattle.nqs_records.specs.Tables.{by_code, values_at};
-ghost use Rattle.nqs_records.specs.KindFields.{value_at, eight_bytes, a_host};
+ghost use Rattle.nqs_records.specs.KindFields.{value_at, eight_bytes, a_host, with_low};
 ghost use Rattle.nqs_records.specs.KindTable.{hand_kinds};
 ghost use Rattle.nqs_records.specs.Kinds.{no_kind};
 
@@ -12,7 +12,7 @@ use crate::field::{read_name, read_u8, read_u64};
 use crate::host_kinds::read_host_kind;
 use crate::job::read_carried;
 use crate::lists::read_hands;
-use crate::part::{read_extent, read_host, read_id, read_path};
+use crate::part::{read_extent, read_host, read_id, read_low, read_path};
 use nqs_types::{Change, HostId};
 use std::alloc::Global;
 
@@ -60,7 +60,7 @@ fn read_hands_silent(alloc: Global, bytes: &[u8], place: u64) -> Result<(Change,
 }
 
 #[tactic(auto, unfolding(crate::specs::KindTable::hand_kinds, crate::specs::Tables::values_at))]
-fn read_promised(alloc: Global, bytes: &[u8], place: u64) -> Result<(Change, u64), RecordFault>
+fn read_old_promised(alloc: Global, bytes: &[u8], place: u64) -> Result<(Change, u64), RecordFault>
     ensures { Answers (by_code value_at hand_kinds 15 no_kind bytes.now place) result }
 {
     let (peer, place) = read_host(bytes, place)?;
@@ -68,9 +68,38 @@ fn read_promised(alloc: Global, bytes: &[u8], place: u64) -> Result<(Change, u64
     let (queue, place) = read_name(bytes, place)?;
     let (carried, place) = read_carried(alloc, bytes, place)?;
     let (script, place) = read_extent(bytes, place)?;
+    let change = Change::OldPromised {
+        peer,
+        number,
+        queue,
+        carried,
+        script,
+    };
+    Ok((change, place))
+}
+
+// The number of a handover and its low.
+fn read_with_low(bytes: &[u8], place: u64) -> Result<((u64, u64), u64), RecordFault>
+    ensures { result ≡ value_at with_low bytes.now place }
+{
+    let (number, next) = read_u64(bytes, place)?;
+    let (low, end) = read_low(bytes, next, number)?;
+    Ok(((number, low), end))
+}
+
+#[tactic(auto, unfolding(crate::specs::KindTable::hand_kinds, crate::specs::Tables::values_at))]
+fn read_promised(alloc: Global, bytes: &[u8], place: u64) -> Result<(Change, u64), RecordFault>
+    ensures { Answers (by_code value_at hand_kinds 24 no_kind bytes.now place) result }
+{
+    let (peer, place) = read_host(bytes, place)?;
+    let ((number, low), place) = read_with_low(bytes, place)?;
+    let (queue, place) = read_name(bytes, place)?;
+    let (carried, place) = read_carried(alloc, bytes, place)?;
+    let (script, place) = read_extent(bytes, place)?;
     let change = Change::Promised {
         peer,
         number,
+        low,
         queue,
         carried,
         script,
@@ -126,7 +155,7 @@ pub(crate) fn read_hand_kind(
             let ((peer, number), place) = read_peer_number(bytes, place)?;
             Ok((Change::HandDone { peer, number }, place))
         }
-        15 => read_promised(alloc, bytes, place),
+        15 => read_old_promised(alloc, bytes, place),
         16 => {
             let ((peer, number), place) = read_peer_number(bytes, place)?;
             Ok((Change::Accepted { peer, number }, place))
@@ -140,6 +169,7 @@ pub(crate) fn read_hand_kind(
             let ((peer, number), place) = read_peer_number(bytes, place)?;
             Ok((Change::StageGone { peer, number }, place))
         }
+        24 => read_promised(alloc, bytes, place),
         _ => read_host_kind(alloc, kind, bytes, place),
     }
 }

@@ -5,7 +5,7 @@ ghost use Rattle.nqs_base.specs.Extents.{extent_bytes};
 ghost use Rattle.nqs_codec.specs.Takes.{IsExtentAt};
 ghost use Rattle.nqs_records.specs.Reading.{Answers};
 ghost use Rattle.nqs_records.specs.Fields.{u64_at, name_at, path_at, opt_at};
-ghost use Rattle.nqs_records.specs.Parts.{host_at, seq_at, id_at, extent_at, part_at, hand_at};
+ghost use Rattle.nqs_records.specs.Parts.{host_at, seq_at, id_at, extent_at, part_at, hand_at, low_at};
 
 use crate::fault::RecordFault;
 use crate::field::{as_fault, read_bool, read_name, read_u8, read_u32, read_u64};
@@ -102,6 +102,19 @@ pub(crate) fn read_hand(bytes: &[u8], place: u64) -> Result<(PeerNumber, u64), R
     let (peer, next) = read_host(bytes, place)?;
     let (number, end) = read_u64(bytes, next)?;
     Ok((PeerNumber { peer, number }, end))
+}
+
+/// The low of a handover at the place: from 1 to the handover's number.
+#[tactic(auto, unfolding(crate::specs::Parts::low_at))]
+pub fn read_low(bytes: &[u8], place: u64, number: u64) -> Result<(u64, u64), RecordFault>
+    ensures { result ≡ low_at number bytes.now place }
+{
+    let (low, next) = read_u64(bytes, place)?;
+    if 1 <= low && low <= number {
+        Ok((low, next))
+    } else {
+        Err(RecordFault::BadField(place))
+    }
 }
 
 // The bytes of an extent that lies within.

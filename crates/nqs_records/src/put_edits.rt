@@ -61,6 +61,12 @@ fn put_conf(edit: ConfEdit, out: &mut Vec<u8>) -> Result<(), Memory>
         ConfEdit::SetNoDefaultQueue => put_code(40, out),
         ConfEdit::SetPatience { seconds } => put_with_number(41, seconds, out),
         ConfEdit::SetRetryWait { seconds } => put_with_number(42, seconds, out),
+        ConfEdit::FirstDestination { destination, queue } => put_with_dest(
+            54,
+            destination,
+            queue,
+            out,
+        ),
     }
 }
 

@@ -1,12 +1,12 @@
 //! Kinds of record, put at the end of a list: the kind's number and its fields. After `Memory` a
 //! part may stand there.
 
-ghost use Rattle.std.specs.Prelude.{◌≡◌, ◌∷◌, []};
+ghost use Rattle.std.specs.Prelude.{◌≡◌, ◌∷◌, ◌++◌, []};
 ghost use Rattle.std.specs.Prelude.{◌<◌, length, IsTrue};
 ghost use Rattle.std.specs.List.{AllByRecursion};
 ghost use Rattle.nqs_base.specs.Path.{IsPath};
 ghost use Rattle.nqs_codec.specs.Fields.{u8_field, u64_field};
-ghost use Rattle.nqs_types.specs.declared.change.Change.TheVariants.{Site, Submitted, Started, Ended, HandOpened, HandRefused, HandsSilent, Promised};
+ghost use Rattle.nqs_types.specs.declared.change.Change.TheVariants.{Site, Submitted, Started, Ended, HandOpened, HandRefused, HandsSilent, OldPromised, Promised};
 ghost use Rattle.nqs_types.specs.declared.change.Change.TheVariants.{MovedLocal, RefusedLocal, StageGot};
 ghost use Rattle.nqs_records.specs.Adds.{Adds};
 ghost use Rattle.nqs_records.specs.Changes.{spelling};
@@ -140,7 +140,7 @@ pub(crate) fn put_hands_silent(
 }
 
 #[tactic(auto, using(crate::proofs::Joined::joined), unfolding(crate::specs::Changes::spelling))]
-pub(crate) fn put_promised(
+pub(crate) fn put_old_promised(
     peer: HostId,
     number: u64,
     queue: &Name,
@@ -149,11 +149,40 @@ pub(crate) fn put_promised(
     out: &mut Vec<u8>,
 ) -> Result<(), Memory>
     requires { IsCarried carried.now }
-    ensures { Adds out.old.items (spelling (Promised peer number queue.now carried.now script)) result out.new.items }
+    ensures { Adds out.old.items (spelling (OldPromised peer number queue.now carried.now script)) result out.new.items }
 {
     put_u8(15, out)?;
     put_u8(peer.0, out)?;
     put_u64(number, out)?;
+    put_name(queue, out)?;
+    put_carried(carried, out)?;
+    put_extent(script, out)
+}
+
+#[tactic(auto, using(crate::proofs::Joined::joined))]
+fn put_with_low(number: u64, low: u64, out: &mut Vec<u8>) -> Result<(), Memory>
+    ensures { Adds out.old.items (u64_field number ++ u64_field low) result out.new.items }
+{
+    put_u64(number, out)?;
+    put_u64(low, out)
+}
+
+#[tactic(auto, using(crate::proofs::Joined::joined), unfolding(crate::specs::Changes::spelling))]
+pub(crate) fn put_promised(
+    peer: HostId,
+    number: u64,
+    low: u64,
+    queue: &Name,
+    carried: &Carried,
+    script: Extent,
+    out: &mut Vec<u8>,
+) -> Result<(), Memory>
+    requires { IsCarried carried.now }
+    ensures { Adds out.old.items (spelling (Promised peer number low queue.now carried.now script)) result out.new.items }
+{
+    put_u8(24, out)?;
+    put_u8(peer.0, out)?;
+    put_with_low(number, low, out)?;
     put_name(queue, out)?;
     put_carried(carried, out)?;
     put_extent(script, out)

@@ -7,9 +7,9 @@ ghost use Rattle.nqs_types.specs.declared.change.Change.TheVariants.{Boot, Edite
 
 use crate::put_edits::put_edit;
 use crate::put_kinds::{
-    put_ended, put_hand_opened, put_hand_refused, put_hands_silent, put_moved_local, put_promised,
-    put_refused_local, put_site, put_stage_got, put_started, put_submitted, put_with_hand,
-    put_with_id,
+    put_ended, put_hand_opened, put_hand_refused, put_hands_silent, put_moved_local,
+    put_old_promised, put_promised, put_refused_local, put_site, put_stage_got, put_started,
+    put_submitted, put_with_hand, put_with_id,
 };
 use nqs_base::Memory;
 use nqs_codec::{put_u8, put_u64};
@@ -70,13 +70,21 @@ fn put_change(change: &Change, out: &mut Vec<u8>) -> Result<(), Memory>
         } => put_hand_refused(*peer, *number, *cause, out),
         Change::HandsSilent { until, hands } => put_hands_silent(*until, hands.as_slice(), out),
         Change::HandDone { peer, number } => put_with_hand(14, *peer, *number, out),
-        Change::Promised {
+        Change::OldPromised {
             peer,
             number,
             queue,
             carried,
             script,
-        } => put_promised(*peer, *number, queue, carried, *script, out),
+        } => put_old_promised(*peer, *number, queue, carried, *script, out),
+        Change::Promised {
+            peer,
+            number,
+            low,
+            queue,
+            carried,
+            script,
+        } => put_promised(*peer, *number, *low, queue, carried, *script, out),
         Change::Accepted { peer, number } => put_with_hand(16, *peer, *number, out),
         Change::Dropped { peer, number } => put_with_hand(17, *peer, *number, out),
         Change::MovedLocal { id, queue } => put_moved_local(*id, queue, out),

@@ -1,1 +1,2 @@
+pub mod Lows
 pub mod Peers

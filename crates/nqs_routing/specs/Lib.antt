@@ -1,1 +1,2 @@
 pub mod Destination
+pub mod Low

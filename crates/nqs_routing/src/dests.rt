@@ -5,7 +5,7 @@ ghost use Rattle.nqs_state.specs.State.{content};
 ghost use Rattle.nqs_rules.specs.Routing.{refuses, was_refused, is_reachable, may_try, destination};
 ghost use Rattle.nqs_routing.specs.Destination.{destination_of};
 
-use crate::hands::{find_peer, has_hand_to};
+use crate::hands::{find_peer, has_room_for_hand, is_within_window};
 use nqs_state::HostState;
 use nqs_types::{Dest, HostId, QueueDef, Refused, Row};
 
@@ -23,13 +23,19 @@ pub(crate) fn was_refused(refused: &[Refused], dest: &Dest) -> bool
     refused.iter().any(|refused| refuses(refused, dest))
 }
 
-/// Whether a handover to the host may be opened at this moment, in seconds since 1970: none to it
-/// is open, there is a number for one, and it isn't waited for.
+/// Whether a handover to the host may be opened at this moment, in seconds since 1970: fewer than
+/// eight to it are open, there is a number for one, less than 64 above the host's low, and it isn't
+/// waited for.
 pub fn is_reachable(state: &HostState, now: u64, peer: HostId) -> bool
     ensures { result ≡ is_reachable now peer (content state.now) }
 {
     match find_peer(state, peer) {
-        Some(known) => { !has_hand_to(state, peer) && known.next < u64::MAX && known.wait <= now }
+        Some(known) => {
+            has_room_for_hand(state, peer)
+                && known.next < u64::MAX
+                && is_within_window(state, peer, known)
+                && known.wait <= now
+        }
         None => false,
     }
 }

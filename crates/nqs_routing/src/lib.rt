@@ -2,7 +2,8 @@
 //! silence leaves; and what a host knows of the handovers and promises with another.
 //!
 //! A destination that refused a request isn't tried again for it, and one on another host only
-//! while no handover to that host is open and the host isn't waited for.
+//! while fewer than eight handovers to that host are open, its next number is less than 64 above
+//! the least of theirs, and the host isn't waited for.
 //! `nqs_rules/specs/Routing.antt` has the rules; `docs/rules.md` says them in words. No call takes
 //! memory.
 #![tactic(auto)]
@@ -13,6 +14,7 @@ mod note;
 
 pub use dests::{destination, destination_in, is_reachable, refuses};
 pub use hands::{
-    find_peer, has_hand_to, has_promise, is_offered_for, is_open_number, is_promise_of,
+    find_peer, has_promise, has_room_for_hand, is_before, is_closed, is_hand_to, is_offered_for,
+    is_open_number, is_outlived, is_within_window, low,
 };
 pub use note::{note_refusal, note_silence};

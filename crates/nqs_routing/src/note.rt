@@ -8,7 +8,6 @@ ghost use Rattle.nqs_rules.specs.Edits.{change_row, change_peer};
 ghost use Rattle.nqs_rules.specs.Routing.{dests_of, dests_for, is_present, with_refusal, all_refused, held_where, refusal_noted};
 
 use crate::dests::was_refused;
-use crate::hands::find_peer;
 use nqs_base::Name;
 use nqs_base_tables::Table;
 use nqs_state::HostState;
@@ -73,11 +72,9 @@ pub fn note_refusal(state: &mut HostState, id: RequestId, dest: Dest, cause: u8)
 pub fn note_silence(state: &mut HostState, peer: HostId, until: u64)
     ensures { content state.new ≡ change_peer peer (λ p. record p { wait = until }) (content state.old) }
 {
-    if let Some(known) = find_peer(state, peer) {
-        let waiting = Peer {
-            wait: until,
-            ..*known
-        };
-        state.peers.replace(peer.0 as usize, waiting);
+    if (peer.0 as usize) < state.peers.len() {
+        state
+            .peers
+            .change(peer.0 as usize, |known: &mut Peer| known.wait = until);
     }
 }

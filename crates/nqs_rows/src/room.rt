@@ -6,7 +6,7 @@ ghost use Rattle.nqs_rules.specs.Causes.{cause, first_refusal};
 ghost use Rattle.nqs_rules.specs.Fits.{offer_full};
 ghost use Rattle.nqs_rules.specs.Rows.{arrivals_used, is_host_full};
 
-use nqs_routing::is_promise_of;
+use nqs_routing::is_outlived;
 use nqs_state::HostState;
 use nqs_types::{HostId, Promise, Refusal};
 
@@ -20,14 +20,14 @@ pub fn is_host_full(state: &HostState) -> bool
     state.promises.len() >= MOST_HELD.saturating_sub(state.rows.len())
 }
 
-/// Whether the host has no room for one more request that the peer offers. A promise to the peer
-/// isn't counted, since the offer replaces it.
-pub fn offer_full(state: &HostState, peer: HostId) -> bool
-    ensures { result ≡ offer_full peer (content state.now) }
+/// Whether the host has no room for one more request that the peer offers. Promises to the peer
+/// under a number below its low aren't counted, since the offer ends them.
+pub fn offer_full(state: &HostState, peer: HostId, low: u64) -> bool
+    ensures { result ≡ offer_full peer low (content state.now) }
 {
     let others = state
         .promises
-        .count(|promise: &Promise| !is_promise_of(promise, peer));
+        .count(|promise: &Promise| !is_outlived(promise, peer, low));
     others >= MOST_HELD.saturating_sub(state.rows.len())
 }
 

@@ -2,7 +2,6 @@
 use Rattle.std.proofs.Common.{◌≡◌, ◌+◌, true, false, not, [], ◌∷◌, filter, Option, None, Some, true≢false, refl, sym, ap, ◌∙◌}
 use Rattle.std.proofs.lemmas.Bool.{and_parts, or_left, or_right}
 use Rattle.std.proofs.lemmas.Option.{same_Some}
-use Rattle.std.specs.List.{list_any}
 use Rattle.nqs_state.specs.State.{State}
 use Rattle.nqs_state.specs.Keys.{is_row}
 use Rattle.nqs_types.specs.declared.ids.RequestId.{RequestId}
@@ -25,7 +24,8 @@ use Rattle.nqs_types.specs.declared.edit.Edit.TheVariants.{Conf, Limits as Limit
 use Rattle.nqs_types.specs.declared.change.OutPart.{OutPart}
 use Rattle.nqs_types.specs.declared.change.Change.{Change}
 use Rattle.nqs_types.specs.declared.change.Change.TheVariants.{Site, Submitted, Deleted, Doomed, Started, Ended, Unlaunched, Boot, Edited, HandOpened}
-use Rattle.nqs_types.specs.declared.change.Change.TheVariants.{HandCommitted, HandRefused, HandsSilent, HandDone, Promised, Accepted, Dropped, MovedLocal}
+use Rattle.nqs_types.specs.declared.change.Change.TheVariants.{HandCommitted, HandRefused, HandsSilent, HandDone, OldPromised, Promised, Accepted, Dropped}
+use Rattle.nqs_types.specs.declared.change.Change.TheVariants.{MovedLocal}
 use Rattle.nqs_types.specs.declared.change.Change.TheVariants.{RefusedLocal, HeldFar, StageGot, StageGone, FileGone}
 use Rattle.nqs_state.specs.Least.{runs_now}
 use Rattle.nqs_rules.specs.Tests.{passes, is_ready, is_running, is_queued, is_unheld, is_offered, is_committed}
@@ -36,7 +36,7 @@ use Rattle.nqs_rules.specs.Limits.{limits_applied}
 use Rattle.nqs_rules.specs.Devices.{devices_applied}
 use Rattle.nqs_rules.specs.Rows.{rows_causes, rows_applied, idle_causes, hold_causes, release_causes, move_causes, held_row, released_row, moved_row}
 use Rattle.nqs_rules.specs.Rows.{with_priority, next_arrival}
-use Rattle.nqs_rules.specs.Routing.{dests_for, is_hand_to}
+use Rattle.nqs_rules.specs.Routing.{dests_for, has_room_for_hand, is_within_window}
 use Rattle.nqs_rules.specs.Applied.{applied, edit_applied, access_applied, doomed_row, started_row, held_far, moved_local, local_refused, hand_committed}
 use Rattle.nqs_rules.specs.Applied.{hand_refused, accepted}
 use Rattle.nqs_rules.specs.Fits.{fits, edit_fits, is_committed_hand, may_hop, is_next, row_passes, device_fits}
@@ -141,8 +141,8 @@ module _ {E : Type 0} (s : State E) (h : IsInOrder s) (c : IsConsistent s) where
   applied_consistent Boot fit = booted_calm s h c
   applied_consistent (Edited e) fit = edit_calm e fit
   applied_consistent (HandOpened peer number id queue since) fit =
-      opened_calm s h c peer number id queue since (each (row_passes may_hop id s)
-      (passes (is_next number) (find_peer peer s) ∷ not (list_any (is_hand_to peer) s.hands) ∷ []) fit).0
+      opened_calm s h c peer number id queue since (each (row_passes may_hop id s) (passes (is_next number) (find_peer peer s) ∷ has_room_for_hand peer s
+      ∷ passes (is_within_window peer s) (find_peer peer s) ∷ []) fit).0
   applied_consistent (HandCommitted peer number) fit = with_offer IsConsistent s peer number (λ o. hand_committed (peer_number peer number) o s)
       (λ x e offered. committed_calm s h c (peer_number peer number) x e) fit
   applied_consistent (HandRefused peer number refusal) fit =
@@ -158,7 +158,8 @@ module _ {E : Type 0} (s : State E) (h : IsInOrder s) (c : IsConsistent s) where
       of : (o : Option Hand) → find_hand peer number s ≡ o → passes is_committed_hand o ≡ true → IsConsistent (applied (HandDone peer number) s)
       of None e fit = absurd (true≢false (sym fit))
       of (Some x) e fit = done_calm s h c (peer_number peer number) x e (unoffered x.phase fit)
-  applied_consistent (Promised peer number queue d script) fit = promised_calm s h c peer number queue d script
+  applied_consistent (OldPromised peer number queue d script) fit = promised_calm s h c peer number number queue d script
+  applied_consistent (Promised peer number low queue d script) fit = promised_calm s h c peer number low queue d script
   applied_consistent (Accepted peer number) fit = with_promise IsConsistent s peer number (λ o. accepted (peer_number peer number) o s)
       (λ x e. accepted_calm s h c (peer_number peer number) x e) fit
   applied_consistent (Dropped peer number) fit = dropped_calm s h c (peer_number peer number)

@@ -1,7 +1,7 @@
 -- Whatever change fits, it leaves a state in order.
 use Rattle.std.proofs.Common.{◌≡◌, ℕ, true, not, nat_lt, nat_le, [], ◌∷◌, length, Option, None, Some, true≢false, refl, sym, arith}
-use Rattle.std.proofs.lemmas.Bool.{and_parts, not-true}
-use Rattle.std.specs.List.{list_any, list_all}
+use Rattle.std.proofs.lemmas.Bool.{and_parts, le-leb, not-true}
+use Rattle.std.specs.List.{list_all}
 use Rattle.nqs_state.specs.State.{State}
 use Rattle.nqs_state.specs.Keys.{is_promise}
 use Rattle.nqs_types.specs.declared.ids.HostId.{HostId}
@@ -11,17 +11,18 @@ use Rattle.nqs_types.specs.declared.edit.Edit.{Edit}
 use Rattle.nqs_types.specs.declared.edit.Edit.TheVariants.{Conf, Limits as LimitsOf, Access as AccessOf, Devices as DevicesOf, Rows as RowsOf}
 use Rattle.nqs_types.specs.declared.change.Change.{Change}
 use Rattle.nqs_types.specs.declared.change.Change.TheVariants.{Site, Submitted, Deleted, Doomed, Started, Ended, Unlaunched, Boot, Edited, HandOpened}
-use Rattle.nqs_types.specs.declared.change.Change.TheVariants.{HandCommitted, HandRefused, HandsSilent, HandDone, Promised, Accepted, Dropped, MovedLocal}
+use Rattle.nqs_types.specs.declared.change.Change.TheVariants.{HandCommitted, HandRefused, HandsSilent, HandDone, OldPromised, Promised, Accepted, Dropped}
+use Rattle.nqs_types.specs.declared.change.Change.TheVariants.{MovedLocal}
 use Rattle.nqs_types.specs.declared.change.Change.TheVariants.{RefusedLocal, HeldFar, StageGot, StageGone, FileGone}
 use Rattle.nqs_state.specs.Least.{runs_now}
 use Rattle.nqs_rules.specs.Tests.{passes, is_ready, last_seq}
 use Rattle.nqs_rules.specs.Find.{peer_number, has_queue, has_promise, find_hand, find_promise, find_peer}
 use Rattle.nqs_rules.specs.Edits.{drop_row, change_peer}
 use Rattle.nqs_rules.specs.Rows.{arrivals_used, is_host_full}
-use Rattle.nqs_rules.specs.Routing.{is_hand_to}
-use Rattle.nqs_rules.specs.Sane.{is_sane_edit, has_path, is_sane_change}
+use Rattle.nqs_rules.specs.Routing.{has_room_for_hand, is_within_window}
+use Rattle.nqs_rules.specs.Sane.{is_sane_edit, has_path, is_sane_carried, is_sane_low, is_sane_change}
 use Rattle.nqs_rules.specs.Applied.{dropped, applied, edit_applied, doomed_row, held_far, hand_committed, hand_refused, accepted}
-use Rattle.nqs_rules.specs.Fits.{fits, edit_fits, is_offered_hand, may_hop, is_next, is_open_number, is_site_host, is_unknown, offer_full, row_passes}
+use Rattle.nqs_rules.specs.Fits.{fits, edit_fits, is_offered_hand, may_hop, is_next, row_passes}
 use Rattle.nqs_rules.specs.Fits.{hand_passes, device_fits}
 use Rattle.nqs_rules.specs.InOrder.{IsInOrder}
 use Rattle.nqs_rules.proofs.Chains.{each}
@@ -79,8 +80,9 @@ module _ {E : Type 0} where
   applied_order Boot s h sane fit = rows_booted s h
   applied_order (Edited e) s h sane fit = edit_order e s h sane fit
   applied_order (HandOpened peer number id queue since) s h sane fit =
-      let p = each (row_passes may_hop id s) (passes (is_next number) (find_peer peer s) ∷ not (list_any (is_hand_to peer) s.hands) ∷ []) fit in
-      opened_order s h peer number id queue since p.0 p.1.0 (not-true (list_any (is_hand_to peer) s.hands) p.1.1.0)
+      let p = each (row_passes may_hop id s) (passes (is_next number) (find_peer peer s) ∷ has_room_for_hand peer s
+      ∷ passes (is_within_window peer s) (find_peer peer s) ∷ []) fit in
+      opened_order s h peer number id queue since p.0 p.1.0 p.1.1.0
   applied_order (HandCommitted peer number) s h sane fit =
       with_offer IsInOrder s peer number (λ o. hand_committed (peer_number peer number) o s)
       (λ x e offered. committed_order s h (peer_number peer number) x e offered) fit
@@ -89,11 +91,11 @@ module _ {E : Type 0} where
       (λ x e offered. refused_order s h (peer_number peer number) x e offered refusal) fit
   applied_order (HandsSilent until ks) s h sane fit = silent_order until ks s h fit
   applied_order (HandDone peer number) s h sane fit = hand_dropped s (peer_number peer number) h
-  applied_order (Promised peer number queue c script) s h sane fit =
-      let p = each (has_queue queue s) (passes (is_open_number number) (find_peer peer s) ∷ not (has_promise peer number s) ∷ is_site_host c.id.host s
-      ∷ is_unknown c.id s ∷ not (offer_full peer s) ∷ not (arrivals_used s) ∷ []) fit in
-      promised_order s h peer number queue c script sane p.0 p.1.0 p.1.1.1.0 p.1.1.1.1.0 (not-true (offer_full peer s) p.1.1.1.1.1.0)
-      (not-true (arrivals_used s) p.1.1.1.1.1.1.0)
+  applied_order (OldPromised peer number queue c script) s h sane fit =
+      promised_order s h peer number number queue c script (le-leb number number (omega arith)) sane fit
+  applied_order (Promised peer number low queue c script) s h sane fit =
+      let p = each (nat_le 1 low) (nat_le low number ∷ []) (and_parts (is_sane_low low number) (is_sane_carried c) sane).0 in
+      promised_order s h peer number low queue c script p.1.0 (and_parts (is_sane_low low number) (is_sane_carried c) sane).1 fit
   applied_order (Accepted peer number) s h sane fit =
       with_promise IsInOrder s peer number (λ o. accepted (peer_number peer number) o s) (λ x e. accepted_order s h (peer_number peer number) x e) fit
   applied_order (Dropped peer number) s h sane fit = with_promise IsInOrder s peer number (λ o. dropped (peer_number peer number) s)
@@ -104,6 +106,7 @@ module _ {E : Type 0} where
   applied_order (HeldFar id) s h sane fit = row_changed s id held_far h (λ q. refl) (λ q e k. k) (λ q. refl) (unoffered is_ready id s h ready_unrouted fit)
   applied_order (StageGot peer number path bytes) s h sane fit =
       file_added (change_peer peer (λ p. record p { stage_got = number }) s) (record { path = path; bytes = bytes })
-      (peer_counted s peer (λ p. record p { stage_got = number }) h (λ p e. record { next = omega arith; stage_next = omega arith }) (λ p. refl)) sane
+      (peer_counted s peer (λ p. record p { stage_got = number }) h (λ p e. record { next = omega arith; stage_next = omega arith })
+      (λ p. (refl, refl))) sane
   applied_order (StageGone peer number) s h sane fit = stages_part s (peer_number peer number) h
   applied_order (FileGone file) s h sane fit = files_part s file h

@@ -6,6 +6,7 @@ use Rattle.std.proofs.lemmas.List.{length-append}
 use Rattle.std.specs.List.{list_all}
 use Rattle.nqs_state.specs.State.{State}
 use Rattle.nqs_base.specs.Same.{name_eq}
+use Rattle.nqs_base_tables.specs.Table.{without_first}
 use Rattle.nqs_types.specs.declared.ids.Dest.{Dest}
 use Rattle.nqs_types.specs.declared.ids.NamedDest.{NamedDest}
 use Rattle.nqs_types.specs.declared.queue.Kind.{Kind}
@@ -13,6 +14,7 @@ use Rattle.nqs_types.specs.declared.queue.Kind.TheVariants.{Batch, Device, Pipe}
 use Rattle.nqs_types.specs.declared.edit.ConfEdit.{ConfEdit}
 use Rattle.nqs_types.specs.declared.edit.ConfEdit.TheVariants.{CreateBatchQueue, CreateDeviceQueue, CreatePipeQueue, DeleteQueue, EnableQueue, DisableQueue}
 use Rattle.nqs_types.specs.declared.edit.ConfEdit.TheVariants.{StartQueue, StopQueue, PurgeQueue, SetPriority, SetRunLimit, AddDestination, RemoveDestination}
+use Rattle.nqs_types.specs.declared.edit.ConfEdit.TheVariants.{FirstDestination}
 use Rattle.nqs_types.specs.declared.edit.ConfEdit.TheVariants.{SetDefaultQueue, SetNoDefaultQueue, SetPatience, SetRetryWait}
 use Rattle.nqs_types.specs.declared.edit.LimitsEdit.{LimitsEdit}
 use Rattle.nqs_types.specs.declared.edit.LimitsEdit.TheVariants.{SetUserLimit, SetCpuLimit, SetMemoryLimit, CreateComplex, DeleteComplex, AddQueue, RemoveQueue}
@@ -23,13 +25,13 @@ use Rattle.nqs_rules.specs.Edits.{change_queue}
 use Rattle.nqs_rules.specs.Find.{host_at, dest_of, has_queue, find_queue, meant_dest}
 use Rattle.nqs_rules.specs.Format.{new_queue}
 use Rattle.nqs_rules.specs.Access.{without_name}
-use Rattle.nqs_rules.specs.Conf.{no_host_cause, at_most, is_conf_within, create_causes, conf_causes, dest_list, with_dest, without_dest, created_dests}
-use Rattle.nqs_rules.specs.Conf.{add_queue, conf_applied, conf_edited, has_full_dests}
+use Rattle.nqs_rules.specs.Conf.{no_host_cause, at_most, is_conf_within, create_causes, conf_causes, dest_list, with_dest, without_dest}
+use Rattle.nqs_rules.specs.Conf.{with_dest_first, created_dests, add_queue, conf_applied, conf_edited, has_full_dests, lists_dest}
 use Rattle.nqs_rules.specs.Limits.{is_limits_within, limits_causes, limits_applied, limits_edited, complex_edited, new_complex}
 use Rattle.nqs_rules.specs.InOrder.{IsInOrder, is_dest_right}
-use Rattle.nqs_rules.proofs.Sublists.{filter_part, part_length, part_all}
+use Rattle.nqs_rules.proofs.Sublists.{filter_part, without_part, part_length, part_all}
 use Rattle.nqs_rules.proofs.ListFacts.{position_at}
-use Rattle.nqs_rules.proofs.KeyFacts.{all-added, place_below}
+use Rattle.nqs_rules.proofs.KeyFacts.{all-added, place_below, length_without}
 use Rattle.nqs_rules.proofs.StateFacts.{IsParameters, parameters_are}
 use Rattle.nqs_rules.proofs.RowKinds.{rows_purged}
 use Rattle.nqs_rules.proofs.QueuesOrder.{queue_is, queue_right, queue_changed, queue_added, queue_deleted}
@@ -196,6 +198,30 @@ module _ {E : Type 0} (s : State E) where
               access = p.access;
               few_dests = le-leb (length (filter (λ other. not (same_dest x other)) d.dests)) 16 (omega (arith, fewer, few));
               dests = part_all (is_dest_right s) part p.dests;
+              few_devices = p.few_devices;
+              devices = p.devices;
+              once = p.once;
+            }))
+    conf_order (FirstDestination d q) sane fit =
+        put_first (meant_dest d s) (meant_right d) (not-false (passes (lists_dest (meant_dest d s)) (find_queue q s))
+        (none_holds (conf_causes (FirstDestination d q) s) fit).1.1.0)
+      where
+        put_first : (o : Option Dest) → list_all (is_dest_right s) (dest_list o) ≡ true → passes (lists_dest o) (find_queue q s) ≡ true
+            → IsInOrder (change_queue q (with_dest_first o) s)
+        put_first None there listed = queue_changed s q (with_dest_first None) h (λ d. refl) (λ d found k. k)
+        put_first (Some x) there listed = queue_changed s q (with_dest_first (Some x)) h (λ d. refl) (λ d found k.
+            let p = queue_is s d k in
+            let as_many = length_without (same_dest x) d.dests (ap (passes (lists_dest (Some x))) (sym found) ∙ listed) in
+            let few = leb-true (length d.dests) 16 p.few_dests in
+            queue_right s (with_dest_first (Some x) d) (record {
+              priority = p.priority;
+              run_limit = p.run_limit;
+              user_limit = p.user_limit;
+              access = p.access;
+              few_dests = le-leb (length (x ∷ without_first (same_dest x) d.dests)) 16 (omega (arith, as_many, few));
+              dests = and_from (is_dest_right s x) (list_all (is_dest_right s) (without_first (same_dest x) d.dests))
+                  (and_parts (is_dest_right s x) true there).0
+                  (part_all (is_dest_right s) (without_part (same_dest x) d.dests) p.dests);
               few_devices = p.few_devices;
               devices = p.devices;
               once = p.once;

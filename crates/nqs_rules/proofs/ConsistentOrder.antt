@@ -1,5 +1,5 @@
 -- What besides holds of a state at every moment stays so: kind by kind.
-use Rattle.std.proofs.Common.{◌≡◌, ℕ, ◌+◌, Bool, true, false, not, ◌&&◌, ◌||◌, nat_lt, List, [], ◌∷◌, ◌++◌, map, filter, find, Option, None, Some, refl, sym}
+use Rattle.std.proofs.Common.{◌≡◌, ℕ, ◌+◌, Bool, true, false, not, ◌&&◌, ◌||◌, nat_lt, List, [], ◌∷◌, ◌++◌, map, find, Option, None, Some, refl, sym}
 use Rattle.std.proofs.Common.{ap, subst, ◌∙◌, arith, if◌then◌else◌}
 use Rattle.std.proofs.lemmas.Bool.{and_parts, or_left, or_right, and_right, not-true, not_from_false}
 use Rattle.std.proofs.lemmas.List.Folds.{list_any-append}
@@ -29,7 +29,8 @@ use Rattle.nqs_rules.specs.Edits.{change_row, change_peer}
 use Rattle.nqs_rules.specs.Rows.{doomed_in}
 use Rattle.nqs_rules.specs.Routing.{dests_for, refusal_noted, close}
 use Rattle.nqs_rules.specs.Applied.{is_offered_for, committed, submitted, deleted, may_start_again, lost_row, booted_row, routing_row, requeued_row, drop_hand}
-use Rattle.nqs_rules.specs.Applied.{hand_opened, hand_committed, hand_refused, hand_silent, hands_silent, is_promise_of, promised, drop_promise, accepted}
+use Rattle.nqs_rules.specs.Applied.{hand_opened, hand_committed, hand_refused, hand_silent, hands_silent, is_outlived, promises_from, promised, drop_promise}
+use Rattle.nqs_rules.specs.Applied.{accepted}
 use Rattle.nqs_rules.specs.Applied.{dropped}
 use Rattle.nqs_rules.specs.Fits.{row_passes, may_hop, is_offered_hand, are_offered, hand_passes, is_id_given}
 use Rattle.nqs_rules.specs.InOrder.{IsInOrder, IsConsistent, are_distinct, is_doom_right, is_hold_right, has_hand, is_promise_free, is_hand_of_given}
@@ -218,13 +219,14 @@ module _ {E : Type 0} where
 
     -- promises
 
-    pub promised_calm : (peer : HostId) (number : ℕ) (queue : List ℕ) (d : Carried) (script : E) → IsConsistent (promised peer number queue d script s)
-    promised_calm peer number queue d script = record {
+    pub promised_calm : (peer : HostId) (number low : ℕ) (queue : List ℕ) (d : Carried) (script : E)
+        → IsConsistent (promised peer number low queue d script s)
+    promised_calm peer number low queue d script = record {
       doomed = c.doomed;
       held = c.held;
       routing = c.routing;
-      promises = all-added is_promise_free (filter (λ p. not (is_promise_of peer p)) s.promises) _
-          (part_all is_promise_free (filter_part (λ p. not (is_promise_of peer p)) s.promises) c.promises) refl;
+      promises = all-added is_promise_free (promises_from peer low s.promises) _
+          (part_all is_promise_free (filter_part (λ p. not (is_outlived peer low p)) s.promises) c.promises) refl;
       given = c.given;
     }
 

@@ -1,9 +1,11 @@
 -- Whether a change fits a state looks neither at the stored parts of the one nor of the other.
 use Rattle.std.proofs.Common.{◌≡◌, ℕ, not, ◌&&◌, ◌||◌, nat_lt, nat_le, List, [], ◌∷◌, Option, None, Some, is_ok, refl, ap}
-use Rattle.std.specs.List.{list_any}
 use Rattle.nqs_state.specs.State.{State}
+use Rattle.nqs_types.specs.declared.ids.HostId.{HostId}
+use Rattle.nqs_types.specs.declared.request.Carried.{Carried}
 use Rattle.nqs_types.specs.declared.change.Change.{Change}
-use Rattle.nqs_types.specs.declared.change.Change.TheVariants.{Submitted, Deleted, Doomed, Started, Ended, Unlaunched, Boot, Edited, HandOpened, Promised}
+use Rattle.nqs_types.specs.declared.change.Change.TheVariants.{Submitted, Deleted, Doomed, Started, Ended, Unlaunched, Boot, Edited, HandOpened, OldPromised}
+use Rattle.nqs_types.specs.declared.change.Change.TheVariants.{Promised}
 use Rattle.nqs_types.specs.declared.change.Change.TheVariants.{Accepted, Dropped, MovedLocal, RefusedLocal, HeldFar, StageGone, FileGone}
 use Rattle.nqs_types.specs.declared.edit.Edit.{Edit}
 use Rattle.nqs_types.specs.declared.edit.Edit.TheVariants.{Conf, Limits as LimitsOf, Access as AccessOf, Devices as DevicesOf, Rows as RowsOf}
@@ -27,8 +29,8 @@ use Rattle.nqs_rules.specs.Conf.{conf_causes}
 use Rattle.nqs_rules.specs.Limits.{limits_causes}
 use Rattle.nqs_rules.specs.Devices.{devices_causes}
 use Rattle.nqs_rules.specs.Rows.{hold_causes, release_causes, move_causes, idle_causes, rows_causes, arrivals_used}
-use Rattle.nqs_rules.specs.Routing.{is_hand_to}
-use Rattle.nqs_rules.specs.Fits.{is_idle, may_hop, is_next, is_open_number, is_site_host, device_fits, edit_causes, fits}
+use Rattle.nqs_rules.specs.Routing.{has_room_for_hand, is_within_window}
+use Rattle.nqs_rules.specs.Fits.{is_idle, may_hop, is_next, is_open_number, is_site_host, device_fits, edit_causes, promise_fits, fits}
 use Rattle.nqs_rules.specs.Plain.{map_state}
 use Rattle.nqs_rules.specs.Stepped.{map_change}
 use Rattle.nqs_rules.proofs.FoundPlain.{row_passes-map, has_row-map, has_promise-map, has_stage-map, has_file-map, held_count-map, held_in-map}
@@ -72,6 +74,13 @@ module _ {E F : Type 0} (f : E → F) where
   edit_causes-map (DevicesOf e) s = devices_causes-map e s
   edit_causes-map (RowsOf e) s = rows_causes-map e s
 
+  promise_fits-map : (peer : HostId) (number low : ℕ) (queue : List ℕ) (c : Carried) (s : State E) → promise_fits peer number low queue c (map_state f s)
+      ≡ promise_fits peer number low queue c s
+  promise_fits-map peer number low queue c s =
+      (λ j. has_queue queue s && passes (is_open_number number) (find_peer peer s) && not (has_promise-map f peer number s j) && is_site_host c.id.host s
+      && (not (has_row-map f c.id s j) && (not (same_host s.me c.id.host) || nat_le c.id.seq s.seq)) && not (nat_le 10000 (offered_count-map f peer low s j))
+      && not (arrivals_used s))
+
   -- whether a change fits
   pub fits-state : {G : Type 0} (c : Change G) (s : State E) → fits c (map_state f s) ≡ fits c s
   fits-state (Submitted queue job script) s = ap (λ n. has_queue queue s && not (nat_le 10000 n) && nat_lt s.seq last_seq && not (arrivals_used s))
@@ -86,12 +95,11 @@ module _ {E F : Type 0} (f : E → F) where
   fits-state (Ended id parts) s = row_passes-map f runs_now id s
   fits-state (Unlaunched id) s = row_passes-map f runs_now id s
   fits-state (Edited e) s = ap (λ cs. is_ok (first_refusal cs)) (edit_causes-map e s)
-  fits-state (HandOpened peer number id queue since) s = ap (λ b. b && passes (is_next number) (find_peer peer s) && not (list_any (is_hand_to peer) s.hands))
+  fits-state (HandOpened peer number id queue since) s =
+      ap (λ b. b && passes (is_next number) (find_peer peer s) && has_room_for_hand peer s && passes (is_within_window peer s) (find_peer peer s))
       (row_passes-map f may_hop id s)
-  fits-state (Promised peer number queue c script) s =
-      (λ j. has_queue queue s && passes (is_open_number number) (find_peer peer s) && not (has_promise-map f peer number s j) && is_site_host c.id.host s
-      && (not (has_row-map f c.id s j) && (not (same_host s.me c.id.host) || nat_le c.id.seq s.seq)) && not (nat_le 10000 (offered_count-map f peer s j))
-      && not (arrivals_used s))
+  fits-state (OldPromised peer number queue c script) s = promise_fits-map peer number number queue c s
+  fits-state (Promised peer number low queue c script) s = promise_fits-map peer number low queue c s
   fits-state (Accepted peer number) s = has_promise-map f peer number s
   fits-state (Dropped peer number) s = has_promise-map f peer number s
   fits-state (MovedLocal id queue) s = ap (λ b. b && has_queue queue s && not (arrivals_used s)) (row_passes-map f may_hop id s)

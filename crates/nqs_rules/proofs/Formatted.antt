@@ -29,7 +29,6 @@ formatted_order me site among few = record {
   complexes = refl;
   rows = refl;
   promises = refl;
-  promisers = refl;
   hands = refl;
   few = refl;
   offers = refl;

@@ -1,5 +1,5 @@
 -- What a state holds is found alike in what it is mapped to.
-use Rattle.std.proofs.Common.{◌≡◌, ℕ, ◌+◌, Bool, not, List, filter, length, Option, None, Some, option_map, refl, ap, ◌∙◌}
+use Rattle.std.proofs.Common.{◌≡◌, ℕ, ◌+◌, Bool, not, List, length, Option, None, Some, option_map, refl, ap, ◌∙◌}
 use Rattle.std.proofs.lemmas.List.{length-map}
 use Rattle.std.specs.List.{list_any}
 use Rattle.nqs_state.specs.State.{State}
@@ -14,7 +14,7 @@ use Rattle.nqs_rules.specs.Find.{peer_number, has_row, find_row, has_promise, ha
 use Rattle.nqs_rules.specs.Conf.{row_in, promise_in, held_in}
 use Rattle.nqs_rules.specs.Devices.{runs_on, is_busy}
 use Rattle.nqs_rules.specs.Rows.{named_causes}
-use Rattle.nqs_rules.specs.Applied.{is_promise_of}
+use Rattle.nqs_rules.specs.Applied.{is_outlived, promises_from}
 use Rattle.nqs_rules.specs.Fits.{row_passes}
 use Rattle.nqs_rules.specs.Plain.{map_row, map_promise, map_stage, map_file, map_state}
 use Rattle.nqs_index.proofs.Numbers.{number-map}
@@ -49,11 +49,10 @@ module _ {E F : Type 0} (f : E → F) where
   pub held_in-map : (q : List ℕ) (s : State E) → held_in q (map_state f s) ≡ held_in q s
   held_in-map q s = (λ j. number-map (map_row f) (row_in q) s.rows j + number-map (map_promise f) (promise_in q) s.promises j)
 
-  -- rows, and promises of other hosts
-  pub offered_count-map : (peer : HostId) (s : State E)
-      → length (map_state f s).rows + length (filter (λ p. not (is_promise_of peer p)) (map_state f s).promises)
-      ≡ length s.rows + length (filter (λ p. not (is_promise_of peer p)) s.promises)
-  offered_count-map peer s = (λ j. length-map s.rows (map_row f) j + number-map (map_promise f) (λ p. not (is_promise_of peer p)) s.promises j)
+  -- rows, and the promises that a low leaves
+  pub offered_count-map : (peer : HostId) (low : ℕ) (s : State E)
+      → length (map_state f s).rows + length (promises_from peer low (map_state f s).promises) ≡ length s.rows + length (promises_from peer low s.promises)
+  offered_count-map peer low s = (λ j. length-map s.rows (map_row f) j + number-map (map_promise f) (λ p. not (is_outlived peer low p)) s.promises j)
 
   pub is_busy-map : (device : List ℕ) (s : State E) → is_busy device (map_state f s) ≡ is_busy device s
   is_busy-map device s = list_any-map (map_row f) (runs_on device) s.rows

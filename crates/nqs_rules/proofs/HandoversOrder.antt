@@ -1,7 +1,9 @@
 -- The changes of handovers: a state in order stays so.
-use Rattle.std.proofs.Common.{◌≡◌, ℕ, ◌+◌, ◌-◌, Bool, true, false, cond, not, ◌||◌, ◌==◌, nat_lt, nat_le, List, [], ◌∷◌, ◌++◌, map, filter, find, length}
-use Rattle.std.proofs.Common.{Option, None, Some, option_map, true≢false, refl, sym, ap, ◌∙◌, arith, if◌then◌else◌}
-use Rattle.std.proofs.lemmas.Bool.{and_parts, and_from, leb-true, leb-false, le-leb, lt-leb, ltb-true, lt-ltb, not-true, not_from_false, eqb-true}
+use Rattle.std.proofs.Common.{◌≡◌, ℕ, ◌+◌, ◌-◌, Bool, true, false, cond, not, ◌&&◌, ◌||◌, ◌==◌, nat_lt, nat_le, List, [], ◌∷◌, ◌++◌, map, find, length}
+use Rattle.std.proofs.Common.{slice_get, Option, None, Some, option_map, true≢false, refl, sym, ap, ◌∙◌, arith, if◌then◌else◌}
+use Rattle.std.proofs.lemmas.Bool.{and_parts, and_from, leb-true, leb-false, le-leb, lt-leb, ltb-true, lt-ltb, not-true, not_from_false, eqb-true, or_parts}
+use Rattle.std.proofs.lemmas.Bool.{or_from}
+use Rattle.std.proofs.lemmas.Bool.{and_left, and_right, false_from_ne_true}
 use Rattle.std.proofs.lemmas.Option.{same_Some}
 use Rattle.std.specs.List.{list_any, list_all}
 use Rattle.nqs_state.specs.State.{State}
@@ -20,21 +22,22 @@ use Rattle.nqs_types.specs.declared.request.Promise.{Promise}
 use Rattle.nqs_types.specs.declared.request.Carried.{Carried}
 use Rattle.nqs_types.specs.declared.request.Peer.{Peer}
 use Rattle.nqs_rules.specs.Tests.{passes, is_running, is_routing, is_ready, is_offered, same_host, last_u64, last_seq}
-use Rattle.nqs_rules.specs.Find.{has_queue, has_row, find_row, find_hand, find_peer, held_count}
+use Rattle.nqs_rules.specs.Find.{peer_number, has_queue, has_row, find_row, find_hand, has_promise, find_peer, held_count}
 use Rattle.nqs_rules.specs.Edits.{change_row, change_peer}
 use Rattle.nqs_rules.specs.Rows.{arrivals_used}
-use Rattle.nqs_rules.specs.Routing.{is_hand_to, close, dests_for, refusal_noted}
+use Rattle.nqs_rules.specs.Routing.{has_number, is_closed, close, raise_floor, has_room_for_hand, dests_for, refusal_noted}
 use Rattle.nqs_rules.specs.Sane.{is_sane_job, is_sane_id, is_sane_carried}
 use Rattle.nqs_rules.specs.Applied.{committed, new_row, routing_row, requeued_row, drop_hand, hand_opened, hand_committed, hand_refused, hand_silent}
-use Rattle.nqs_rules.specs.Applied.{hands_silent, is_promise_of, drop_promise, add_promised, accepted, dropped, promised}
-use Rattle.nqs_rules.specs.Fits.{is_offered_hand, row_passes, hand_passes, may_hop, is_next, is_open_number, is_site_host, is_unknown, offer_full, are_offered}
-use Rattle.nqs_rules.specs.InOrder.{IsInOrder, same_number, is_id_right, is_hand_given, is_peer_right, is_row_right, is_hand_right}
+use Rattle.nqs_rules.specs.Applied.{hands_silent, is_outlived, promises_from, drop_promise, accepted, dropped, promised}
+use Rattle.nqs_rules.specs.Fits.{is_offered_hand, row_passes, hand_passes, may_hop, is_next, is_open_number, is_site_host, is_unknown, offer_full, promise_fits}
+use Rattle.nqs_rules.specs.Fits.{are_offered}
+use Rattle.nqs_rules.specs.InOrder.{IsInOrder, same_number, ascends_from, is_id_right, is_hand_given, is_peer_right, is_row_right, is_hand_right}
 use Rattle.nqs_rules.specs.InOrder.{is_routing_row, is_promise_right}
 use Rattle.nqs_rules.proofs.Chains.{each, implied}
-use Rattle.nqs_rules.proofs.Sublists.{filter_part}
+use Rattle.nqs_rules.proofs.ClosedNumbers.{closed-raised}
+use Rattle.nqs_rules.proofs.Sublists.{IsPart, filter_part, part_none}
 use Rattle.nqs_rules.proofs.ListFacts.{found_passes, list_all-found, list_all-weaker}
-use Rattle.nqs_rules.proofs.ListMaps.{list_any-map}
-use Rattle.nqs_rules.proofs.KeyFacts.{all_get, place_below, any_found, none_found, found_changed, find-without_other, gone_without, all_from_none, key_gone}
+use Rattle.nqs_rules.proofs.KeyFacts.{none_from_all, all_get, place_below, any_found, none_found, found_changed, find-without_other, gone_without}
 use Rattle.nqs_rules.proofs.KeyFacts.{key_gone_behind, length_without}
 use Rattle.nqs_rules.proofs.StateFacts.{sites_are, parameters_are, short_are, keys_are}
 use Rattle.nqs_rules.proofs.RowFacts.{same_it, same_peer_number, Keeps, row_kept, IsRow, row_is, IsPromise, promise_is, promise_right}
@@ -42,7 +45,7 @@ use Rattle.nqs_rules.proofs.RowsOrder.{IsHand, row_dropped, row_changed, row_add
 use Rattle.nqs_rules.proofs.RowChanges.{new_row_right, noted_kept, queued_is, routing_is, ready_queued, routing_right, requeued_right, noted_right}
 use Rattle.nqs_rules.proofs.RowKinds.{found_row, unoffered, ready_unrouted, counted, arrival_new}
 use Rattle.nqs_rules.proofs.HandsOrder.{hand_dropped, hand_changed, hand_added, offer_gone, offer_committed}
-use Rattle.nqs_rules.proofs.PeersOrder.{same_host_exact, peer_counted, peer_closed, promises_part, promise_dropped, promise_added}
+use Rattle.nqs_rules.proofs.PeersOrder.{peer_counted, peer_closed, floor_raised, promises_part, promise_dropped, promise_added}
 use Rattle.nqs_rules.proofs.OutputsOrder.{get-changed, given_next}
 
 abbrev pub not_committed : Option Hand → Bool
@@ -104,7 +107,7 @@ module _ {E : Type 0} where
 
     pub silent_one : (until : ℕ) → IsInOrder (hand_silent until k (Some x) s)
     silent_one until = peer_counted (change_row x.id requeued_row (drop_hand k s)) k.peer (λ p. record p { wait = until }) requeued
-        (λ p e. record { next = omega arith; stage_next = omega arith }) (λ p. refl)
+        (λ p e. record { next = omega arith; stage_next = omega arith }) (λ p. (refl, refl))
 
   -- hands of offers that are taken back one after the other
 
@@ -137,15 +140,32 @@ module _ {E : Type 0} where
   silent_order until ks s h all = silent_all until ks s h (list_all-weaker (λ k. hand_passes is_offered_hand k.peer k.number s)
       (λ k. not_committed (find_hand k.peer k.number s)) (λ k. offer_or_none (find_hand k.peer k.number s)) ks all)
 
+  -- no hand has the number that its peer gets next
+  number_new : (s : State E) → IsInOrder s → (peer : HostId) (p : Peer) (number : ℕ) → find_peer peer s ≡ Some p → p.next ≡ number
+      → list_any (is_hand (peer_number peer number)) s.hands ≡ false
+  number_new s h peer p number found next = none_from_all (is_hand_right s) (is_hand (peer_number peer number)) (λ x k.
+      by x (hand_is s x k).given (peer.0 == x.peer.0) refl) s.hands h.hands
+    where
+      by : (x : Hand) → passes (is_hand_given x.number) (find_peer x.peer s) ≡ true → (b : Bool) → (peer.0 == x.peer.0) ≡ b
+          → ((peer.0 == x.peer.0) && (number == x.number)) ≡ false
+      by x given false e = and_left (peer.0 == x.peer.0) (number == x.number) e
+      by x given true e =
+          let here : find_peer x.peer s ≡ Some p = ap (slice_get s.peers) (sym (number_exact peer.0 x.peer.0 e)) ∙ found in
+          let parts = and_parts (nat_le 1 x.number) (nat_lt x.number p.next) (ap (passes (is_hand_given x.number)) (sym here) ∙ given) in
+          let below = ltb-true x.number p.next parts.1 in
+          and_right (peer.0 == x.peer.0) (number == x.number) (false_from_ne_true (number == x.number) (λ is.
+          let same : number ≡ x.number = number_exact number x.number is in omega (arith, same, below, next)))
+
   -- a handover is opened
   pub opened_order : (s : State E) → IsInOrder s → (peer : HostId) (number : ℕ) (id : RequestId) (queue : List ℕ) (since : ℕ) → row_passes may_hop id s ≡ true
-      → passes (is_next number) (find_peer peer s) ≡ true → list_any (is_hand_to peer) s.hands ≡ false → IsInOrder (hand_opened peer number id queue since s)
-  opened_order s h peer number id queue since hop next free =
+      → passes (is_next number) (find_peer peer s) ≡ true → has_room_for_hand peer s ≡ true → IsInOrder (hand_opened peer number id queue since s)
+  opened_order s h peer number id queue since hop next room =
       let r = found_row may_hop id s hop in
       let may = and_parts (is_ready r.0) (nat_lt r.0.hops 32) r.2 in
       let p = found_peer (is_next number) peer s next in
       let same : p.0.next ≡ number = eqb-true p.0.next number (and_parts (p.0.next == number) (nat_lt p.0.next last_u64) p.2).0 in
-      let counts = (and_parts (nat_le 1 p.0.next) (nat_le 1 p.0.stage_next) (all_get is_peer_right s.peers peer.0 p.0 h.peers p.1)).0 in
+      let counts = (each (nat_le 1 p.0.next) (nat_le 1 p.0.stage_next ∷ ascends_from p.0.floor p.0.closed ∷ [])
+      (all_get is_peer_right s.peers peer.0 p.0 h.peers p.1)).0 in
       let unrouted = unoffered is_ready id s h ready_unrouted (ap (passes is_ready) r.1 ∙ may.0) in
       let f : Peer → Peer = λ q. record q { next = number + 1 } in
       let s1 : State E = change_row id routing_row s in
@@ -155,7 +175,7 @@ module _ {E : Type 0} where
       let is : q ≡ r.0 = same_Some q r.0 (sym e ∙ r.1) in
       routing_right s q k (ready_queued q (ap is_ready is ∙ may.0)) (ap (λ y. nat_lt y.hops 32) is ∙ may.1)) (λ q. refl) unrouted in
       let b : IsInOrder s2 = peer_counted s1 peer f a (λ q e. let is : q.next ≡ p.0.next = ap (λ y. y.next) (same_Some q p.0 (sym e ∙ p.1)) in
-      record { next = omega (arith, is, same); stage_next = omega arith }) (λ q. refl) in
+      record { next = omega (arith, is, same); stage_next = omega arith }) (λ q. (refl, refl)) in
       let key : id ≡ r.0.id = id_exact id r.0.id (found_passes (is_row id) s.rows r.0 r.1) in
       let right : IsRow s r.0 = row_is s r.0 (list_all-found (is_row_right s) (is_row id) s.rows r.0 h.rows r.1) in
       hand_added s2 x b (hand_right s2 x (record {
@@ -163,79 +183,85 @@ module _ {E : Type 0} where
         given = ap (passes (is_hand_given number)) (get-changed peer.0 f s.peers ∙ ap (option_map f) p.1)
             ∙ given_next number (ap (nat_le 1) (sym same) ∙ counts);
         stands = ap (passes is_routing_row) (found_changed (is_row id) routing_row (λ q. refl) s.rows ∙ ap (option_map routing_row) r.1);
-      })) free unrouted refl
+      })) room (number_new s h peer p.0 number p.1 same) unrouted refl
 
   -- promises
 
-  -- promises of other hosts
-  others_only : (peer : HostId) (ps : List (Promise E)) → list_all (λ p. not (is_promise_of peer p)) (filter (λ p. not (is_promise_of peer p)) ps) ≡ true
-  others_only peer [] = refl
-  others_only peer (p ∷ ps) = by (is_promise_of peer p) refl (others_only peer ps)
+  -- what a low leaves isn't below it
+  left_only : (peer : HostId) (low : ℕ) (ps : List (Promise E)) → list_all (λ p. not (is_outlived peer low p)) (promises_from peer low ps) ≡ true
+  left_only peer low [] = refl
+  left_only peer low (p ∷ ps) = by (is_outlived peer low p) refl (left_only peer low ps)
     where
-      by : (b : Bool) → is_promise_of peer p ≡ b → list_all (λ q. not (is_promise_of peer q)) (filter (λ q. not (is_promise_of peer q)) ps) ≡ true
-          → list_all (λ q. not (is_promise_of peer q)) (cond (not b) (p ∷ filter (λ q. not (is_promise_of peer q)) ps)
-          (filter (λ q. not (is_promise_of peer q)) ps)) ≡ true
+      by : (b : Bool) → is_outlived peer low p ≡ b → list_all (λ q. not (is_outlived peer low q)) (promises_from peer low ps) ≡ true
+          → list_all (λ q. not (is_outlived peer low q)) (cond (not b) (p ∷ promises_from peer low ps) (promises_from peer low ps)) ≡ true
       by true e rest = rest
-      by false e rest = and_from (not (is_promise_of peer p)) (list_all (λ q. not (is_promise_of peer q)) (filter (λ q. not (is_promise_of peer q)) ps))
-          (not_from_false (is_promise_of peer p) e) rest
+      by false e rest = and_from (not (is_outlived peer low p)) (list_all (λ q. not (is_outlived peer low q)) (promises_from peer low ps))
+          (not_from_false (is_outlived peer low p) e) rest
 
-  pub promised_order : (s : State E) → IsInOrder s → (peer : HostId) (number : ℕ) (queue : List ℕ) (c : Carried) (script : E) → is_sane_carried c ≡ true
-      → has_queue queue s ≡ true → passes (is_open_number number) (find_peer peer s) ≡ true → is_site_host c.id.host s ≡ true
-      → is_unknown c.id s ≡ true → offer_full peer s ≡ false → arrivals_used s ≡ false → IsInOrder (promised peer number queue c script s)
-  promised_order s h peer number queue c script sane there opens host unknown full used =
-      let unused : nat_le last_u64 s.arrivals ≡ false = used in
+  pub promised_order : (s : State E) → IsInOrder s → (peer : HostId) (number low : ℕ) (queue : List ℕ) (c : Carried) (script : E)
+      → nat_le low number ≡ true → is_sane_carried c ≡ true → promise_fits peer number low queue c s ≡ true
+      → IsInOrder (promised peer number low queue c script s)
+  promised_order s h peer number low queue c script within sane fit =
+      let fits = each (has_queue queue s) (passes (is_open_number number) (find_peer peer s) ∷ not (has_promise peer number s) ∷ is_site_host c.id.host s
+      ∷ is_unknown c.id s ∷ not (offer_full peer low s) ∷ not (arrivals_used s) ∷ []) fit in
+      let unused : nat_le last_u64 s.arrivals ≡ false = not-true (arrivals_used s) fits.1.1.1.1.1.1.0 in
       let below = leb-false last_u64 s.arrivals unused in
-      let ps = filter (λ p. not (is_promise_of peer p)) s.promises in
+      let ps = promises_from peer low s.promises in
+      let part : IsPart ps s.promises = filter_part (λ q. not (is_outlived peer low q)) s.promises in
       let s1 : State E = record s { promises = ps } in
-      let s2 : State E = change_peer peer (close (number - 1)) s1 in
+      let s2 : State E = change_peer peer (raise_floor (low - 1)) s1 in
       let s3 : State E = record s2 { arrivals = s.arrivals + 1 } in
       let p : Promise E = record { peer = peer; number = number; row = new_row c queue (s.arrivals + 1) script } in
-      let low : nat_le s.seq last_seq ≡ true = (parameters_are s h.parameters).seq in
-      let few = leb-true s.seq last_seq low in
-      let a : IsInOrder s1 = promises_part s ps (filter_part (λ q. not (is_promise_of peer q)) s.promises) h in
-      let b : IsInOrder s2 = peer_closed s1 peer (number - 1) a (others_only peer s.promises) in
+      let least : nat_le s.seq last_seq ≡ true = (parameters_are s h.parameters).seq in
+      let few = leb-true s.seq last_seq least in
+      let a : IsInOrder s1 = promises_part s ps part h in
+      let b : IsInOrder s2 = floor_raised s1 peer low a (left_only peer low s.promises) in
       let d : IsInOrder s3 = counted s2 s.seq (s.arrivals + 1) b (omega arith) few (omega arith) (omega (arith, below)) in
-      let found = found_peer (is_open_number number) peer s opens in
-      let opened : nat_le number found.0.closed ≡ false = not-true (nat_le number found.0.closed) found.2 in
-      let some = leb-false number found.0.closed opened in
-      let room : nat_le 10000 (held_count s3) ≡ false = full in
+      let found = found_peer (is_open_number number) peer s fits.1.0 in
+      let opened : is_closed number found.0 ≡ false = not-true (is_closed number found.0) found.2 in
+      let above = (or_parts (nat_le number found.0.floor) (has_number number found.0.closed) opened).0 in
+      let some = leb-false number found.0.floor above in
+      let not_less = leb-true low number within in
+      let room : nat_le 10000 (held_count s3) ≡ false = not-true (offer_full peer low s) fits.1.1.1.1.1.0 in
       let free = leb-false 10000 (held_count s3) room in
       let values = each (is_sane_id c.id) (is_sane_job c.job ∷ nat_lt c.starts 65535 ∷ (c.lost == c.starts) ∷ nat_le c.hops 32 ∷ []) sane in
       let as_often : c.lost ≡ c.starts = eqb-true c.lost c.starts values.1.1.1.0 in
       let fewer = ltb-true c.starts 65535 values.1.1.0 in
       promise_added s3 p d (promise_right s3 p (record {
-        row = new_row_right s3 c queue (s.arrivals + 1) script (and_from (is_site_host c.id.host s) (is_sane_id c.id) host values.0)
-            (and_parts (not (has_row c.id s)) (not (same_host s.me c.id.host) || nat_le c.id.seq s.seq) unknown).1 values.1.0 there
+        row = new_row_right s3 c queue (s.arrivals + 1) script (and_from (is_site_host c.id.host s) (is_sane_id c.id) fits.1.1.1.0 values.0)
+            (and_parts (not (has_row c.id s)) (not (same_host s.me c.id.host) || nat_le c.id.seq s.seq) fits.1.1.1.1.0).1 values.1.0 fits.0
             (le-leb (s.arrivals + 1) (s.arrivals + 1) (omega arith)) (sym as_often) (lt-ltb c.lost 65535 (omega (arith, fewer, as_often))) values.1.1.1.1.0;
         queued = refl;
         some = le-leb 1 number (omega (arith, some));
-        opens = ap (passes (is_open_number number)) (get-changed peer.0 (close (number - 1)) s.peers ∙ ap (option_map (close (number - 1))) found.1)
-            ∙ not_from_false (nat_le number (number - 1)) (lt-leb number (number - 1) (omega (arith, some)));
-      })) (others_only peer s.promises) (arrival_new s2 b) (lt-ltb (held_count s3) 10000 (omega (arith, free)))
+        opens = ap (passes (is_open_number number)) (get-changed peer.0 (raise_floor (low - 1)) s.peers
+            ∙ ap (option_map (raise_floor (low - 1))) found.1)
+            ∙ ap not (closed-raised number (low - 1) found.0
+            ∙ or_from (nat_le number (low - 1)) (is_closed number found.0) (lt-leb number (low - 1) (omega (arith, some, not_less))) opened);
+      })) (part_none (is_promise (peer_number peer number)) part (not-true (has_promise peer number s) fits.1.1.0)) (arrival_new s2 b)
+      (lt-ltb (held_count s3) 10000 (omega (arith, free)))
 
-  -- the promise that a change speaks of goes, and its peer has no other
+  -- the promise that a change speaks of goes, and its number is closed
   module _ (s : State E) (h : IsInOrder s) (k : PeerNumber) (p : Promise E) (found : find (is_promise k) s.promises ≡ Some p) where
     key : k ≡ promise_key p
     key = peer_number_exact k (promise_key p) (found_passes (is_promise k) s.promises p found)
 
-    alone : list_all (λ q. not (is_promise_of k.peer q)) (without_first (is_promise k) s.promises) ≡ true
-    alone = all_from_none (λ q. not (is_promise_of k.peer q)) (is_promise_of k.peer) (λ q e. not_from_false (is_promise_of k.peer q) e)
-        (without_first (is_promise k) s.promises)
-        (ap (λ m. list_any (is_promise_of m.peer) (without_first (is_promise k) s.promises)) key
-        ∙ sym (list_any-map (λ q. q.peer) (same_host p.peer) (without_first (is_promise k) s.promises))
-        ∙ key_gone same_host (λ q. q.peer) same_host_exact (λ m. same_it m.0) (is_promise k) s.promises p found h.promisers)
+    q : IsPromise s p
+    q = promise_is s p (list_all-found (is_promise_right s) (is_promise k) s.promises p h.promises found)
+
+    opens : passes (is_open_number k.number) (find_peer k.peer s) ≡ true
+    opens = ap (λ (m : PeerNumber). passes (is_open_number m.number) (find_peer m.peer s)) key ∙ q.opens
+
+    alone : list_any (is_promise k) (without_first (is_promise k) s.promises) ≡ false
+    alone = gone_without peer_number_eq promise_key peer_number_exact same_peer_number k s.promises (keys_are s h.keys).promises
 
     pub dropped_order : IsInOrder (dropped k s)
-    dropped_order = peer_closed (drop_promise k s) k.peer k.number (promise_dropped s k h) alone
+    dropped_order = peer_closed (drop_promise k s) k.peer k.number (promise_dropped s k h) opens alone
 
     pub accepted_order : IsInOrder (accepted k (Some p) s)
-    accepted_order = peer_closed (add_promised p.row (drop_promise k s)) k.peer k.number (by (has_row p.row.id s) refl) (same (has_row p.row.id s))
+    accepted_order = closed (has_row p.row.id s) (by (has_row p.row.id s) refl)
       where
         t : State E
         t = drop_promise k s
-
-        q : IsPromise s p
-        q = promise_is s p (list_all-found (is_promise_right s) (is_promise k) s.promises p h.promises found)
 
         more : has_row p.row.id s ≡ false → IsInOrder (record t { rows = s.rows ++ requeued_row p.row ∷ [] })
         more new =
@@ -251,7 +277,7 @@ module _ {E : Type 0} where
         by true e = promise_dropped s k h
         by false e = more e
 
-        same : (b : Bool) → list_all (λ m. not (is_promise_of k.peer m)) (if b then t else record t { rows = s.rows ++ requeued_row p.row ∷ [] }).promises
-            ≡ true
-        same true = alone
-        same false = alone
+        closed : (b : Bool) → IsInOrder (if b then t else record t { rows = s.rows ++ requeued_row p.row ∷ [] })
+            → IsInOrder (change_peer k.peer (close k.number) (if b then t else record t { rows = s.rows ++ requeued_row p.row ∷ [] }))
+        closed true order = peer_closed t k.peer k.number order opens alone
+        closed false order = peer_closed (record t { rows = s.rows ++ requeued_row p.row ∷ [] }) k.peer k.number order opens alone

@@ -1,7 +1,7 @@
 -- Changes of handovers: a state in order stays so.
 use Rattle.std.proofs.Common.{◌≡◌, ◌+◌, Bool, true, false, cond, not, ◌&&◌, ◌==◌, nat_le, List, [], ◌∷◌, ◌++◌, map, filter, find, length, Some, suc, refl, sym}
 use Rattle.std.proofs.Common.{ap, ◌∙◌, arith, if◌then◌else◌}
-use Rattle.std.proofs.lemmas.Bool.{and_parts, and_from, leb-true, le-leb, not-true, not_from_false, or_parts, or_from, and_left}
+use Rattle.std.proofs.lemmas.Bool.{and_parts, and_from, leb-true, le-leb, ltb-true, not-true, not_from_false, or_parts, or_from}
 use Rattle.std.proofs.lemmas.List.{map-append, length-append}
 use Rattle.std.proofs.lemmas.List.Elements.{filter-append}
 use Rattle.std.proofs.lemmas.Option.{same_Some, none-some}
@@ -16,14 +16,15 @@ use Rattle.nqs_types.specs.declared.ids.RequestId.{RequestId}
 use Rattle.nqs_types.specs.declared.ids.PeerNumber.{PeerNumber}
 use Rattle.nqs_types.specs.declared.request.Hand.{Hand}
 use Rattle.nqs_rules.specs.Tests.{is_offered, same_host}
-use Rattle.nqs_rules.specs.Routing.{is_hand_to}
+use Rattle.nqs_rules.specs.Routing.{has_room_for_hand}
 use Rattle.nqs_rules.specs.Applied.{committed, drop_hand}
 use Rattle.nqs_rules.specs.Fits.{is_offered_hand}
 use Rattle.nqs_rules.specs.InOrder.{IsInOrder, are_distinct, offered_ids, hands_to, has_few_hands, is_hand_right}
 use Rattle.nqs_rules.proofs.Chains.{differ}
 use Rattle.nqs_rules.proofs.Sublists.{IsPart, skip, keep, whole, without_part, filter_parts, map_part, part_length, part_all, part_distinct}
 use Rattle.nqs_rules.proofs.ListFacts.{list_all-weaker, list_all-changed, map-changed, list_all-found}
-use Rattle.nqs_rules.proofs.KeyFacts.{all-both, all-added, all_from_none, distinct-added, turned}
+use Rattle.nqs_rules.proofs.ListMaps.{list_any-map}
+use Rattle.nqs_rules.proofs.KeyFacts.{all-added, distinct-added, turned}
 use Rattle.nqs_rules.proofs.StateFacts.{keys_are}
 use Rattle.nqs_rules.proofs.SameBut.{with_hands}
 use Rattle.nqs_rules.proofs.RowFacts.{same_id, same_it, same_peer_number}
@@ -148,11 +149,6 @@ few_changed t peer (x ∷ hs) = by (t x) (same_host peer x.peer) (few_changed t 
     by true c rest = here (same_host peer x.peer)
     by false c rest = there (same_host peer x.peer) rest
 
-none_counted : (peer : HostId) (hs : List Hand) → list_any (is_hand_to peer) hs ≡ false → length (filter (λ h. same_host peer h.peer) hs) ≡ 0
-none_counted peer [] none = refl
-none_counted peer (x ∷ hs) none = let p = or_parts (is_hand_to peer x) (list_any (is_hand_to peer) hs) none in
-    ap (λ b. length (cond b (x ∷ filter (λ h. same_host peer h.peer) hs) (filter (λ h. same_host peer h.peer) hs))) p.0 ∙ none_counted peer hs p.1
-
 module _ {E : Type 0} where
   -- fewer hands
   pub hands_part : (s : State E) (hands : List Hand) → IsPart hands s.hands → IsInOrder s → IsInOrder (record s { hands = hands })
@@ -188,26 +184,22 @@ module _ {E : Type 0} where
       right : (x : Hand) → is_hand_right s x ≡ true → is_hand_right s (committed x) ≡ true
       right x q = let p = hand_is s x q in hand_right s (committed x) (record { id = p.id; given = p.given; stands = refl })
 
-  -- one hand more, to a host that none went to, for a request that wasn't offered
-  pub hand_added : (s : State E) (x : Hand) → IsInOrder s → is_hand_right s x ≡ true → list_any (is_hand_to x.peer) s.hands ≡ false
-      → list_all (is_no_offer_of x.id) s.hands ≡ true → is_offered x.phase ≡ true → IsInOrder (record s { hands = s.hands ++ x ∷ [] })
-  hand_added s x h right new unoffered offered =
+  -- one hand more, under a new number, to a host that fewer than eight went to, for a request that
+  -- wasn't offered
+  pub hand_added : (s : State E) (x : Hand) → IsInOrder s → is_hand_right s x ≡ true → has_room_for_hand x.peer s ≡ true
+      → list_any (is_hand (hand_key x)) s.hands ≡ false → list_all (is_no_offer_of x.id) s.hands ≡ true → is_offered x.phase ≡ true
+      → IsInOrder (record s { hands = s.hands ++ x ∷ [] })
+  hand_added s x h right room new unoffered offered =
       let t : State E = record s { hands = s.hands ++ x ∷ [] } in
       with_hands s (s.hands ++ x ∷ []) h
       (ap (are_distinct peer_number_eq) (map-append hand_key s.hands (x ∷ []))
-      ∙ distinct-added peer_number_eq peer_number_exact same_peer_number (map hand_key s.hands) (hand_key x) (key_new s.hands new) (keys_are s h.keys).hands)
+      ∙ distinct-added peer_number_eq peer_number_exact same_peer_number (map hand_key s.hands) (hand_key x)
+      (list_any-map hand_key (peer_number_eq (hand_key x)) s.hands ∙ new) (keys_are s h.keys).hands)
       (all-added (is_hand_right s) s.hands x h.hands right)
-      (all-added (has_few_hands t) s.hands x (all-both (has_few_hands s) (λ y. not (is_hand_to x.peer y)) (has_few_hands t)
-      (λ y few other. few_old y few (not-true (is_hand_to x.peer y) other)) s.hands h.few
-      (all_from_none (λ y. not (is_hand_to x.peer y)) (is_hand_to x.peer) (λ y e. not_from_false (is_hand_to x.peer y) e) s.hands new)) few_new)
+      (all-added (has_few_hands t) s.hands x (list_all-weaker (has_few_hands s) (has_few_hands t) (λ y few. few_old y few (same_host x.peer y.peer) refl)
+      s.hands h.few) few_new)
       (ap (are_distinct id_eq) offers_more ∙ distinct-added id_eq id_exact same_id (offered_ids s) x.id (offer_new s.hands unoffered) h.offers)
     where
-      key_new : (hs : List Hand) → list_any (is_hand_to x.peer) hs ≡ false → list_any (peer_number_eq (hand_key x)) (map hand_key hs) ≡ false
-      key_new [] none = refl
-      key_new (y ∷ hs) none = let p = or_parts (is_hand_to x.peer y) (list_any (is_hand_to x.peer) hs) none in
-          or_from (peer_number_eq (hand_key x) (hand_key y)) (list_any (peer_number_eq (hand_key x)) (map hand_key hs))
-          (and_left (x.peer.0 == y.peer.0) (x.number == y.number) p.0) (key_new hs p.1)
-
       offer_new : (hs : List Hand) → list_all (is_no_offer_of x.id) hs ≡ true → list_any (id_eq x.id) (map (λ y. y.id) (filter is_offered_hand hs)) ≡ false
       offer_new [] all = refl
       offer_new (y ∷ hs) all = let p = and_parts (is_no_offer_of x.id y) (list_all (is_no_offer_of x.id) hs) all in
@@ -228,14 +220,18 @@ module _ {E : Type 0} where
       count peer = ap length (filter-append (λ y. same_host peer y.peer) s.hands (x ∷ []))
           ∙ length-append (hands_to peer s) (filter (λ y. same_host peer y.peer) (x ∷ []))
 
-      few_old : (y : Hand) → has_few_hands s y ≡ true → is_hand_to x.peer y ≡ false → has_few_hands (record s { hands = s.hands ++ x ∷ [] }) y ≡ true
-      few_old y few other =
+      few_new : has_few_hands (record s { hands = s.hands ++ x ∷ [] }) x ≡ true
+      few_new =
+          let one : length (cond (same_host x.peer x.peer) (x ∷ []) []) ≡ 1 = ap (λ b. length (cond b (x ∷ []) [])) (same_it x.peer.0) in
+          let below = ltb-true (length (hands_to x.peer s)) 8 room in
+          le-leb (length (hands_to x.peer (record s { hands = s.hands ++ x ∷ [] }))) 8 (omega (arith, count x.peer, one, below))
+
+      few_old : (y : Hand) → has_few_hands s y ≡ true → (b : Bool) → same_host x.peer y.peer ≡ b
+          → has_few_hands (record s { hands = s.hands ++ x ∷ [] }) y ≡ true
+      few_old y few true same = ap (λ n. nat_le (length (filter (λ z. n == z.peer.0) (s.hands ++ x ∷ []))) 8)
+          (sym (number_exact x.peer.0 y.peer.0 same)) ∙ few_new
+      few_old y few false other =
           let k = leb-true (length (hands_to y.peer s)) 8 few in
           let no : length (cond (same_host y.peer x.peer) (x ∷ []) []) ≡ 0 =
           ap (λ b. length (cond b (x ∷ []) [])) (turned (λ a b. a == b) number_exact same_it x.peer.0 y.peer.0 other) in
           le-leb (length (hands_to y.peer (record s { hands = s.hands ++ x ∷ [] }))) 8 (omega (arith, count y.peer, no, k))
-
-      few_new : has_few_hands (record s { hands = s.hands ++ x ∷ [] }) x ≡ true
-      few_new =
-          let one : length (cond (same_host x.peer x.peer) (x ∷ []) []) ≡ 1 = ap (λ b. length (cond b (x ∷ []) [])) (same_it x.peer.0) in
-          le-leb (length (hands_to x.peer (record s { hands = s.hands ++ x ∷ [] }))) 8 (omega (arith, count x.peer, one, none_counted x.peer s.hands new))

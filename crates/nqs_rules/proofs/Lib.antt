@@ -18,8 +18,11 @@ pub mod Lowers
 pub mod Until
 pub mod Chains
 pub mod Sublists
+pub mod ClosedNumbers
 pub mod KeyFacts
 pub mod RowFacts
+pub mod Lows
+pub mod PutFirst
 pub mod StateFacts
 pub mod SameBut
 pub mod RowsOrder

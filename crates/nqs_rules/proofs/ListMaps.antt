@@ -1,7 +1,7 @@
 -- Lists over a map: what a test finds among images is the image of what it finds.
-use Rattle.std.proofs.Common.{◌≡◌, ℕ, ◌+◌, Bool, true, false, cond, ◌||◌, List, [], ◌∷◌, map, filter, find, length, flat_map, ◌++◌, Option, None, Some}
-use Rattle.std.proofs.Common.{option_map, refl, sym, ap, ◌∙◌, if◌then◌else◌}
-use Rattle.std.proofs.lemmas.List.{length-map, map-append}
+use Rattle.std.proofs.Common.{◌≡◌, ℕ, ◌+◌, Bool, true, false, cond, ◌||◌, List, [], ◌∷◌, map, filter, find, flat_map, ◌++◌, Option, None, Some}
+use Rattle.std.proofs.Common.{option_map, refl, ap, ◌∙◌, if◌then◌else◌}
+use Rattle.std.proofs.lemmas.List.{map-append}
 use Rattle.std.specs.List.{filter_map, cons_option, list_any}
 use Rattle.nqs_base_tables.specs.Table.{change_first, without_first, better, best_from}
 

@@ -33,7 +33,7 @@ use Rattle.nqs_rules.specs.Causes.{Cause, cause, first_refusal}
 use Rattle.nqs_rules.specs.Find.{peer_number, has_queue, find_queue, has_row, find_row, find_hand, has_promise, has_stage, find_peer}
 use Rattle.nqs_rules.specs.Rows.{causes_of, arrivals_used}
 use Rattle.nqs_rules.specs.Routing.{is_closed}
-use Rattle.nqs_rules.specs.Sane.{is_of_site, is_short_script, is_sane_carried, is_sane_job, has_path, is_sane_body, is_sane_event}
+use Rattle.nqs_rules.specs.Sane.{is_of_site, is_short_script, is_sane_low, is_sane_carried, is_sane_job, has_path, is_sane_body, is_sane_event}
 use Rattle.nqs_rules.specs.Fits.{is_offered_hand, is_committed_hand, is_open_number, is_new_stage, is_site_host, is_unknown, offer_full}
 use Rattle.nqs_rules.specs.Stepped.{quiet, says, makes, ready}
 use Rattle.nqs_rules.specs.Handover.{closes, was_given, send_abort, send_done, send_ready, named_of, is_not_given_here, offer_entry_causes, offer_causes}
@@ -109,24 +109,25 @@ module _ {E : Type 0} (s : State E) (h : IsInOrder s) where
   not_passed test other None turns some fails = absurd (true≢false (sym some))
   not_passed test other (Some p) turns some fails = turns p fails
 
-  offer_fits : (peer : HostId) (n : ℕ) (queue : List ℕ) (c : Carried) (script : List ℕ) → is_of_site (length s.site) peer ≡ true → is_sane_carried c ≡ true
-      → is_of_site (length s.site) c.id.host ≡ true → Fitting s (on_offer peer n queue c script s).change
-  offer_fits peer n queue c script of_site sane host = by (closes n (find_peer peer s)) refl (has_promise peer n s) refl
+  offer_fits : (peer : HostId) (n low : ℕ) (queue : List ℕ) (c : Carried) (script : List ℕ) → is_of_site (length s.site) peer ≡ true
+      → is_sane_low low n ≡ true → is_sane_carried c ≡ true
+      → is_of_site (length s.site) c.id.host ≡ true → Fitting s (on_offer peer n low queue c script s).change
+  offer_fits peer n low queue c script of_site within sane host = by (closes n (find_peer peer s)) refl (has_promise peer n s) refl
     where
       made : closes n (find_peer peer s) ≡ false → has_promise peer n s ≡ false → (o : Result (Unit {0}) Refusal)
-          → first_refusal (offer_causes peer queue c s) ≡ o → Fitting s (offer_by o peer n queue c script s).change
+          → first_refusal (offer_causes peer low queue c s) ≡ o → Fitting s (offer_by o peer n low queue c script s).change
       made opens new (Err refusal) e = tt
       made opens new (Ok u) e =
           let entry : List Cause = causes_of (offer_entry_causes c) (find_queue queue s) in
           let first : List Cause = cause (has_row c.id s || is_not_given_here c.id s) (RequestExists (named_of c.id s))
           ∷ cause (not (has_queue queue s)) (NoQueue queue) ∷ entry in
-          let last : List Cause = cause (offer_full peer s) HostFull ∷ cause (arrivals_used s) NumbersUsed ∷ [] in
+          let last : List Cause = cause (offer_full peer low s) HostFull ∷ cause (arrivals_used s) NumbersUsed ∷ [] in
           let parts = causes_behind first last (ap is_ok e) in
           let front = none_holds first parts.0 in
           let back = none_holds last parts.1 in
           let known = or_parts (has_row c.id s) (is_not_given_here c.id s) front.0 in (
             chained (has_queue queue s) (passes (is_open_number n) (find_peer peer s) ∷ not (has_promise peer n s) ∷ is_site_host c.id.host s
-                ∷ is_unknown c.id s ∷ not (offer_full peer s) ∷ not (arrivals_used s) ∷ []) (
+                ∷ is_unknown c.id s ∷ not (offer_full peer low s) ∷ not (arrivals_used s) ∷ []) (
                   not-false (has_queue queue s) front.1.0,
                   (
                     not_passed (is_closed n) (is_open_number n) (find_peer peer s) (λ p e. not_from_false (is_closed n p) e) (peer_known peer of_site) opens,
@@ -137,13 +138,13 @@ module _ {E : Type 0} (s : State E) (h : IsInOrder s) where
                         (
                           and_from (not (has_row c.id s)) (not (same_host s.me c.id.host) || nat_le c.id.seq s.seq) (not_from_false (has_row c.id s) known.0)
                               (given (same_host s.me c.id.host) known.1),
-                          (not_from_false (offer_full peer s) back.0, (not_from_false (arrivals_used s) back.1.0, tt)),
+                          (not_from_false (offer_full peer low s) back.0, (not_from_false (arrivals_used s) back.1.0, tt)),
                         ),
                       ),
                     ),
                   ),
                 ),
-            sane,
+            and_from (is_sane_low low n) (is_sane_carried c) within sane,
           )
         where
           given : (b : Bool) → (b && nat_lt s.seq c.id.seq) ≡ false → (not b || nat_le c.id.seq s.seq) ≡ true
@@ -152,10 +153,10 @@ module _ {E : Type 0} (s : State E) (h : IsInOrder s) where
 
       by : (b : Bool) → closes n (find_peer peer s) ≡ b → (d : Bool) → has_promise peer n s ≡ d
           → Fitting s (if b then says (send_done s peer n ∷ []) else (if d then says (send_ready s peer n ∷ []) else
-          offer_by (first_refusal (offer_causes peer queue c s)) peer n queue c script s)).change
+          offer_by (first_refusal (offer_causes peer low queue c s)) peer n low queue c script s)).change
       by true opens d new = tt
       by false opens true new = tt
-      by false opens false new = made opens new (first_refusal (offer_causes peer queue c s)) refl
+      by false opens false new = made opens new (first_refusal (offer_causes peer low queue c s)) refl
 
   ready_fits : (peer : HostId) (n : ℕ) → Fitting s (on_ready peer n s).change
   ready_fits peer n = of (find_hand peer n s) refl
@@ -274,9 +275,9 @@ module _ {E : Type 0} (s : State E) (h : IsInOrder s) where
 
   message_fits : (peer : HostId) (b : Body) → is_of_site (length s.site) peer ≡ true → is_sane_body (length s.site) b ≡ true
       → Fitting s (on_message peer b s).change
-  message_fits peer (body.Offer n queue c script) of_site sane =
-      let k = each (nat_le 1 n) (is_sane_carried c ∷ is_of_site (length s.site) c.id.host ∷ is_short_script script ∷ []) sane in
-      offer_fits peer n queue c script of_site k.1.0 k.1.1.0
+  message_fits peer (body.Offer n low queue c script) of_site sane =
+      let k = each (nat_le 1 n) (is_sane_low low n ∷ is_sane_carried c ∷ is_of_site (length s.site) c.id.host ∷ is_short_script script ∷ []) sane in
+      offer_fits peer n low queue c script of_site k.1.0 k.1.1.0 k.1.1.1.0
   message_fits peer (body.Ready n) of_site sane = ready_fits peer n
   message_fits peer (body.Refused n refusal) of_site sane = refused_fits peer n refusal
   message_fits peer (body.Commit n) of_site sane = commit_fits peer n

@@ -35,24 +35,25 @@ module _ {E F : Type 0} (f : E → F) where
       → (if b then x' else y') ≡ map_stepped f (if b then x else y)
   choice-map b x y x' y' e g = (λ j. if b then e j else g j) ∙ if-map (map_stepped f) b x y
 
-  offer_causes-map : (peer : HostId) (queue : List ℕ) (c : Carried) (s : State E) → offer_causes peer queue c (map_state f s) ≡ offer_causes peer queue c s
-  offer_causes-map peer queue c s = (λ j. cause (has_row-map f c.id s j || is_not_given_here c.id s) (RequestExists (named_of c.id s))
+  offer_causes-map : (peer : HostId) (low : ℕ) (queue : List ℕ) (c : Carried) (s : State E)
+      → offer_causes peer low queue c (map_state f s) ≡ offer_causes peer low queue c s
+  offer_causes-map peer low queue c s = (λ j. cause (has_row-map f c.id s j || is_not_given_here c.id s) (RequestExists (named_of c.id s))
       ∷ cause (not (has_queue queue s)) (NoQueue queue)
-      ∷ causes_of (offer_entry_causes c) (find_queue queue s) ++ cause (nat_le 10000 (offered_count-map f peer s j)) HostFull
+      ∷ causes_of (offer_entry_causes c) (find_queue queue s) ++ cause (nat_le 10000 (offered_count-map f peer low s j)) HostFull
       ∷ cause (arrivals_used s) NumbersUsed ∷ [])
 
-  offer_by-map : (r : Result (Unit {0}) Refusal) (peer : HostId) (n : ℕ) (queue : List ℕ) (c : Carried) (script : List ℕ) (s : State E)
-      → offer_by r peer n queue c script (map_state f s) ≡ map_stepped f (offer_by r peer n queue c script s)
-  offer_by-map (Ok u) peer n queue c script s = refl
-  offer_by-map (Err e) peer n queue c script s = refl
+  offer_by-map : (r : Result (Unit {0}) Refusal) (peer : HostId) (n low : ℕ) (queue : List ℕ) (c : Carried) (script : List ℕ) (s : State E)
+      → offer_by r peer n low queue c script (map_state f s) ≡ map_stepped f (offer_by r peer n low queue c script s)
+  offer_by-map (Ok u) peer n low queue c script s = refl
+  offer_by-map (Err e) peer n low queue c script s = refl
 
-  on_offer-map : (peer : HostId) (n : ℕ) (queue : List ℕ) (c : Carried) (script : List ℕ) (s : State E)
-      → on_offer peer n queue c script (map_state f s) ≡ map_stepped f (on_offer peer n queue c script s)
-  on_offer-map peer n queue c script s =
+  on_offer-map : (peer : HostId) (n low : ℕ) (queue : List ℕ) (c : Carried) (script : List ℕ) (s : State E)
+      → on_offer peer n low queue c script (map_state f s) ≡ map_stepped f (on_offer peer n low queue c script s)
+  on_offer-map peer n low queue c script s =
       choice-map (closes n (find_peer peer s)) _ _ _ _ refl
       ((λ j. if has_promise-map f peer n s j then says (send_ready (map_state f s) peer n ∷ []) else
-      offer_by (first_refusal (offer_causes-map peer queue c s j)) peer n queue c script (map_state f s))
-      ∙ choice-map (has_promise peer n s) _ _ _ _ refl (offer_by-map (first_refusal (offer_causes peer queue c s)) peer n queue c script s))
+      offer_by (first_refusal (offer_causes-map peer low queue c s j)) peer n low queue c script (map_state f s))
+      ∙ choice-map (has_promise peer n s) _ _ _ _ refl (offer_by-map (first_refusal (offer_causes peer low queue c s)) peer n low queue c script s))
 
   on_ready-map : (peer : HostId) (n : ℕ) (s : State E) → on_ready peer n (map_state f s) ≡ map_stepped f (on_ready peer n s)
   on_ready-map peer n s = by (find_hand peer n s)
@@ -113,7 +114,7 @@ module _ {E F : Type 0} (f : E → F) where
       ∙ choice-map (list_any (is_file file) s.files) _ _ _ _ refl refl
 
   pub on_message-map : (peer : HostId) (b : Body) (s : State E) → on_message peer b (map_state f s) ≡ map_stepped f (on_message peer b s)
-  on_message-map peer (body.Offer n queue c script) s = on_offer-map peer n queue c script s
+  on_message-map peer (body.Offer n low queue c script) s = on_offer-map peer n low queue c script s
   on_message-map peer (body.Ready n) s = on_ready-map peer n s
   on_message-map peer (body.Refused n refusal) s = on_refused-map peer n refusal s
   on_message-map peer (body.Commit n) s = on_commit-map peer n s

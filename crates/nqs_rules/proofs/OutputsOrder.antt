@@ -22,7 +22,8 @@ use Rattle.nqs_rules.specs.Edits.{change_at, change_peer}
 use Rattle.nqs_rules.specs.Find.{find_peer, peer_number}
 use Rattle.nqs_rules.specs.Sane.{has_path}
 use Rattle.nqs_rules.specs.Applied.{add_file, stage_counted, add_stage_to, add_stage, add_output, add_outputs}
-use Rattle.nqs_rules.specs.InOrder.{IsInOrder, is_peer_right, are_distinct, same_number, is_given, is_stage_given, is_stage_right, is_file_right}
+use Rattle.nqs_rules.specs.InOrder.{IsInOrder, is_peer_right, are_distinct, same_number, is_given, ascends_from, is_stage_given, is_stage_right, is_file_right}
+use Rattle.nqs_rules.proofs.Chains.{each}
 use Rattle.nqs_rules.proofs.Sublists.{without_part, map_part, part_all, part_distinct}
 use Rattle.nqs_rules.proofs.ListFacts.{list_all-weaker}
 use Rattle.nqs_rules.proofs.ListMaps.{list_any-map}
@@ -120,7 +121,7 @@ module _ {E : Type 0} where
       })
   stage_numbered s host part p h path found =
       let t : State E = change_peer host stage_counted s in
-      let k : IsInOrder t = peer_counted s host stage_counted h (λ q e. record { next = omega arith; stage_next = omega arith }) (λ q. refl) in
+      let k : IsInOrder t = peer_counted s host stage_counted h (λ q e. record { next = omega arith; stage_next = omega arith }) (λ q. (refl, refl)) in
       let right : passes (is_stage_given p.stage_next) (find_peer host t) ≡ true =
       ap (passes (is_stage_given p.stage_next)) (get-changed host.0 stage_counted s.peers ∙ ap (option_map stage_counted) found)
       ∙ given_next p.stage_next counts in
@@ -128,7 +129,7 @@ module _ {E : Type 0} where
       (and_from (is_path part.path) (passes (is_stage_given p.stage_next) (find_peer host t)) path right) new
     where
       counts : nat_le 1 p.stage_next ≡ true
-      counts = (and_parts (nat_le 1 p.next) (nat_le 1 p.stage_next) (all_get is_peer_right s.peers host.0 p h.peers found)).1
+      counts = (each (nat_le 1 p.next) (nat_le 1 p.stage_next ∷ ascends_from p.floor p.closed ∷ []) (all_get is_peer_right s.peers host.0 p h.peers found)).1.0
 
       new : list_any (peer_number_eq (peer_number host p.stage_next)) (map stage_key s.stages) ≡ false
       new = list_any-map stage_key (peer_number_eq (peer_number host p.stage_next)) s.stages

@@ -72,16 +72,18 @@ module _ {E F : Type 0} (f : E → F) where
 
   -- hands and promises that are said again
 
-  offer-map : (s : State E) (h : Hand) (o : Option (Row E)) → repeat_offer (map_state f s) h (option_map (map_row f) o) ≡ mapped (repeat_offer s h o)
-  offer-map s h None = refl
-  offer-map s h (Some r) = refl
+  offer-map : (now : ℕ) (s : State E) (h : Hand) (o : Option (Row E))
+      → repeat_offer now (map_state f s) h (option_map (map_row f) o) ≡ mapped (repeat_offer now s h o)
+  offer-map now s h None = refl
+  offer-map now s h (Some r) = refl
 
-  phase-map : (p : Phase) (s : State E) (h : Hand) → repeat_phase p (map_state f s) h ≡ mapped (repeat_phase p s h)
-  phase-map Offered s h = ap (repeat_offer (map_state f s) h) (find_row-map f h.id s) ∙ offer-map s h (find_row h.id s)
-  phase-map Committed s h = refl
+  phase-map : (p : Phase) (now : ℕ) (s : State E) (h : Hand) → repeat_phase p now (map_state f s) h ≡ mapped (repeat_phase p now s h)
+  phase-map Offered now s h = ap (repeat_offer now (map_state f s) h) (find_row-map f h.id s) ∙ offer-map now s h (find_row h.id s)
+  phase-map Committed now s h = refl
 
   hand-map : (now : ℕ) (s : State E) (h : Hand) → mapped (repeat_hand now s h) ≡ repeat_hand now (map_state f s) h
-  hand-map now s h = sym ((λ j. if is_silent now s h then [] else phase-map h.phase s h j) ∙ if-map mapped (is_silent now s h) [] (repeat_phase h.phase s h))
+  hand-map now s h = sym ((λ j. if is_silent now s h then [] else phase-map h.phase now s h j)
+      ∙ if-map mapped (is_silent now s h) [] (repeat_phase h.phase now s h))
 
   tick_outputs-map : (now : ℕ) (s : State E) → (on_tick now (map_state f s)).outputs ≡ mapped (on_tick now s).outputs
   tick_outputs-map now s =

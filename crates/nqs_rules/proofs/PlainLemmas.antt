@@ -1,5 +1,5 @@
 -- A change of a state is, on the parts that stand for its stored ones, the same change.
-use Rattle.std.proofs.Common.{◌≡◌, ℕ, ◌+◌, Bool, true, false, not, ◌&&◌, filter, List, [], ◌∷◌, ◌++◌, map, Option, None, Some, option_map, refl, sym, ap, ◌∙◌}
+use Rattle.std.proofs.Common.{◌≡◌, ℕ, ◌+◌, Bool, true, false, not, ◌&&◌, List, [], ◌∷◌, ◌++◌, map, Option, None, Some, option_map, refl, sym, ap, ◌∙◌}
 use Rattle.std.proofs.Common.{if◌then◌else◌, nat_lt}
 use Rattle.std.proofs.lemmas.List.{map-append}
 use Rattle.nqs_state.specs.State.{State}
@@ -12,11 +12,13 @@ use Rattle.nqs_types.specs.declared.ids.Dest.{Dest}
 use Rattle.nqs_types.specs.declared.request.Row.{Row}
 use Rattle.nqs_types.specs.declared.request.Hand.{Hand}
 use Rattle.nqs_types.specs.declared.request.Promise.{Promise}
+use Rattle.nqs_types.specs.declared.request.Carried.{Carried}
 use Rattle.nqs_types.specs.declared.request.Peer.{Peer}
 use Rattle.nqs_types.specs.declared.change.OutPart.{OutPart}
 use Rattle.nqs_types.specs.declared.change.Change.{Change}
 use Rattle.nqs_types.specs.declared.change.Change.TheVariants.{Submitted, Deleted, Doomed, Started, Ended, Unlaunched, Boot, Edited, HandOpened, HandCommitted}
-use Rattle.nqs_types.specs.declared.change.Change.TheVariants.{HandRefused, HandsSilent, Promised, Accepted, Dropped, MovedLocal, RefusedLocal, HeldFar}
+use Rattle.nqs_types.specs.declared.change.Change.TheVariants.{HandRefused, HandsSilent, OldPromised, Promised, Accepted, Dropped, MovedLocal, RefusedLocal}
+use Rattle.nqs_types.specs.declared.change.Change.TheVariants.{HeldFar}
 use Rattle.nqs_types.specs.declared.change.Change.TheVariants.{StageGot, StageGone, FileGone}
 use Rattle.nqs_types.specs.declared.edit.Edit.{Edit}
 use Rattle.nqs_types.specs.declared.edit.Edit.TheVariants.{Conf, Limits as LimitsOf, Access as AccessOf, Devices as DevicesOf, Rows as RowsOf}
@@ -39,8 +41,9 @@ use Rattle.nqs_rules.specs.Devices.{devices_applied}
 use Rattle.nqs_rules.specs.Rows.{doomed_in, held_row, released_row, moved_row, with_priority, change_meant, next_arrival, rows_applied}
 use Rattle.nqs_rules.specs.Routing.{close, held_where, all_refused, with_refusal, refusal_noted, dests_for}
 use Rattle.nqs_rules.specs.Applied.{new_row, doomed_row, started_row, may_start_again, lost_row, booted_row, add_file, add_stage_to, add_output, add_outputs}
-use Rattle.nqs_rules.specs.Applied.{stage_counted, routing_row, requeued_row, drop_hand, hand_committed, hand_refused, hand_silent, hands_silent, is_promise_of}
-use Rattle.nqs_rules.specs.Applied.{add_promised, drop_promise, accepted, moved_local, local_refused, held_far, access_applied, edit_applied, applied}
+use Rattle.nqs_rules.specs.Applied.{stage_counted, routing_row, requeued_row, drop_hand, hand_committed, hand_refused, hand_silent, hands_silent, is_outlived}
+use Rattle.nqs_rules.specs.Applied.{promises_from, promised, add_promised, drop_promise, accepted, moved_local, local_refused, held_far, access_applied}
+use Rattle.nqs_rules.specs.Applied.{edit_applied, applied}
 use Rattle.nqs_rules.specs.Plain.{map_row, map_promise, map_stage, map_file, map_state}
 use Rattle.nqs_rules.specs.Stepped.{map_part, map_change}
 use Rattle.nqs_rules.proofs.ListMaps.{map-change_first, map-without_first, map-filter, map-mapped, map-filter_map, find-map, list_any-map}
@@ -205,6 +208,14 @@ module _ {E F : Type 0} (f : E → F) where
   accepted-map k (Some p) s = ap (change_peer k.peer (close k.number)) (add_promised-map p.row (drop_promise k s)
       ∙ ap (add_promised (map_row f p.row)) (drop_promise-map k s))
 
+  promised-map : (peer : HostId) (number low : ℕ) (queue : List ℕ) (c : Carried) (script : E) (s : State E)
+      → map_state f (promised peer number low queue c script s) ≡ promised peer number low queue c (f script) (map_state f s)
+  promised-map peer number low queue c script s =
+      ap (λ l. record (map_state f (promised peer number low queue c script s)) { promises = l })
+      (map-append (map_promise f) (promises_from peer low s.promises) _
+      ∙ ap (λ l. l ++ record { peer = peer; number = number; row = new_row c queue (s.arrivals + 1) (f script) } ∷ [])
+      (map-filter (map_promise f) (λ p. not (is_outlived peer low p)) s.promises))
+
   -- a change of a state and one of what it is mapped to are the same
   pub applied-map : (c : Change E) (s : State E) → map_state f (applied c s) ≡ applied (map_change f c) (map_state f s)
   applied-map (Submitted queue job script) s = ap (λ l. record (map_state f s) { rows = l; seq = s.seq + 1; arrivals = s.arrivals + 1 })
@@ -221,11 +232,8 @@ module _ {E F : Type 0} (f : E → F) where
   applied-map (HandCommitted peer number) s = committed-map (peer_number peer number) (find_hand peer number s) s
   applied-map (HandRefused peer number refusal) s = refused-map (peer_number peer number) refusal (find_hand peer number s) s
   applied-map (HandsSilent until hands) s = all_silent-map until hands s
-  applied-map (Promised peer number queue c script) s =
-      ap (λ l. record (map_state f (applied (Promised peer number queue c script) s)) { promises = l })
-      (map-append (map_promise f) (filter (λ p. not (is_promise_of peer p)) s.promises) _
-      ∙ ap (λ l. l ++ record { peer = peer; number = number; row = new_row c queue (s.arrivals + 1) (f script) } ∷ [])
-      (map-filter (map_promise f) (λ p. not (is_promise_of peer p)) s.promises))
+  applied-map (OldPromised peer number queue c script) s = promised-map peer number number queue c script s
+  applied-map (Promised peer number low queue c script) s = promised-map peer number low queue c script s
   applied-map (Accepted peer number) s = accepted-map (peer_number peer number) (find_promise peer number s) s
       ∙ ap (λ o. accepted (peer_number peer number) o (map_state f s)) (sym (find-map (map_promise f) (is_promise (peer_number peer number)) s.promises))
   applied-map (Dropped peer number) s = ap (change_peer peer (close number)) (drop_promise-map (peer_number peer number) s)

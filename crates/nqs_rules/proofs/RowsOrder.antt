@@ -57,7 +57,7 @@ module _ {E : Type 0} where
       → list_all (stands rows) s.hands ≡ true → IsInOrder (record s { rows = rows })
   with_rows s rows h few right ids arrivals offers =
       let t = record s { rows = rows } in
-      with_requests s rows s.promises h few ids (keys_are s h.keys).promises arrivals h.promisers right h.promises
+      with_requests s rows s.promises h few ids (keys_are s h.keys).promises arrivals right h.promises
       (all-both (is_hand_right s) (stands rows) (is_hand_right t)
       (λ x k stay. let p = hand_is s x k in hand_right t x (record { id = p.id; given = p.given; stands = stay })) s.hands h.hands offers)
 

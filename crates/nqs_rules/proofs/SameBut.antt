@@ -9,7 +9,7 @@ use Rattle.nqs_types.specs.declared.request.Hand.{Hand}
 use Rattle.nqs_types.specs.declared.request.Promise.{Promise}
 use Rattle.nqs_types.specs.declared.request.Stage.{Stage}
 use Rattle.nqs_types.specs.declared.request.FileOut.{FileOut}
-use Rattle.nqs_rules.specs.Tests.{same_host, last_u64}
+use Rattle.nqs_rules.specs.Tests.{last_u64}
 use Rattle.nqs_rules.specs.Fits.{is_offered_hand}
 use Rattle.nqs_rules.specs.InOrder.{IsInOrder, are_distinct, same_number, is_given, is_queue_right, is_complex_right, is_row_right, is_promise_right}
 use Rattle.nqs_rules.specs.InOrder.{is_hand_right}
@@ -52,7 +52,6 @@ module _ {E : Type 0} where
       complexes = complexes;
       rows = rows;
       promises = promises;
-      promisers = h.promisers;
       hands = h.hands;
       few = h.few;
       offers = h.offers;
@@ -71,10 +70,10 @@ module _ {E : Type 0} where
   pub with_requests : (s : State E) (rows : List (Row E)) (promises : List (Promise E)) → IsInOrder s → nat_le (length rows + length promises) 10000 ≡ true
       → are_distinct id_eq (map (λ r. r.id) rows) ≡ true → are_distinct peer_number_eq (map promise_key promises) ≡ true
       → are_distinct same_number (map (λ r. r.arrival) rows ++ map (λ p. p.row.arrival) promises) ≡ true
-      → are_distinct same_host (map (λ p. p.peer) promises) ≡ true → list_all (is_row_right s) rows ≡ true → list_all (is_promise_right s) promises ≡ true
+      → list_all (is_row_right s) rows ≡ true → list_all (is_promise_right s) promises ≡ true
       → list_all (is_hand_right (record s { rows = rows; promises = promises })) s.hands ≡ true
       → IsInOrder (record s { rows = rows; promises = promises })
-  with_requests s rows promises h few ids numbers arrivals promisers right promised hands =
+  with_requests s rows promises h few ids numbers arrivals right promised hands =
       let t : State E = record s { rows = rows; promises = promises } in
       let keeps : Keeps s t = record { me = refl; site = refl; seq = omega arith; arrivals = omega arith; queues = λ q k. k; devices = λ d k. k } in
       record {
@@ -87,7 +86,6 @@ module _ {E : Type 0} where
         complexes = h.complexes;
         rows = rows_kept s t keeps rows right;
         promises = promises_kept s t keeps refl promises promised;
-        promisers = promisers;
         hands = hands;
         few = h.few;
         offers = h.offers;
@@ -113,7 +111,6 @@ module _ {E : Type 0} where
         complexes = h.complexes;
         rows = rows_kept s t keeps s.rows h.rows;
         promises = promises_kept s t keeps refl s.promises h.promises;
-        promisers = h.promisers;
         hands = right;
         few = few;
         offers = offers;
@@ -150,7 +147,6 @@ module _ {E : Type 0} where
         complexes = h.complexes;
         rows = rows_kept s t keeps s.rows h.rows;
         promises = promises_kept s t keeps refl s.promises h.promises;
-        promisers = h.promisers;
         hands = h.hands;
         few = h.few;
         offers = h.offers;

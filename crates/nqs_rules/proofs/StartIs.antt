@@ -5,7 +5,7 @@ use Rattle.std.proofs.lemmas.Bool.{and_parts, and_from, eqb-true, not-false, not
 use Rattle.std.proofs.lemmas.Bool.Decides.{nat_tests}
 use Rattle.std.proofs.lemmas.Cmp.{nat_eq_equiv, nat_list_eq_equiv}
 use Rattle.std.proofs.lemmas.Option.{same_Some, none-some}
-use Rattle.std.specs.List.{list_any, list_all}
+use Rattle.std.specs.List.{list_all}
 use Rattle.std.specs.Option.{IfSome, option_and_then}
 use Rattle.nqs_base.specs.Same.{name_eq, name_exact}
 use Rattle.nqs_types.specs.Ids.{id_eq, id_exact}
@@ -30,8 +30,8 @@ use Rattle.nqs_rules.specs.Devices.{can_serve, is_busy, is_free_device, free_dev
 use Rattle.nqs_rules.specs.Rows.{arrivals_used, causes_of, move_entry_causes}
 use Rattle.nqs_rules.specs.Sane.{is_sane_change}
 use Rattle.nqs_rules.specs.Fits.{fits, row_passes, may_hop, is_next, device_fits}
-use Rattle.nqs_rules.specs.Routing.{is_hand_to, has_number_left, was_refused, is_over_wait, is_free_peer, is_reachable, may_try, destination, dests_of}
-use Rattle.nqs_rules.specs.Routing.{dests_for}
+use Rattle.nqs_rules.specs.Routing.{has_number_left, has_room_for_hand, is_within_window, was_refused, is_over_wait, is_free_peer, is_reachable, may_try}
+use Rattle.nqs_rules.specs.Routing.{destination, dests_of, dests_for}
 use Rattle.nqs_rules.specs.Order.{is_local, print_on, move_to, choice_for, pick}
 use Rattle.nqs_rules.specs.Handover.{opened_with, open_hand}
 use Rattle.nqs_rules.specs.Stepped.{Stepped}
@@ -39,7 +39,7 @@ use Rattle.nqs_rules.specs.Start.{launching, printing, local_causes, moving_by, 
 use Rattle.nqs_rules.specs.InOrder.{are_distinct}
 use Rattle.nqs_rules.specs.Picked.{PlainRow, row_place, IsPicked}
 use Rattle.nqs_rules.proofs.ListFacts.{not_true, found_again, list_all-found, IsAt, position_at}
-use Rattle.nqs_rules.proofs.Chains.{chained}
+use Rattle.nqs_rules.proofs.Chains.{Each, each, chained}
 use Rattle.nqs_rules.proofs.KeyFacts.{any_found}
 use Rattle.nqs_rules.proofs.ConfOrder.{none_holds, causes_behind}
 use Rattle.nqs_rules.proofs.RowFacts.{same_id}
@@ -242,21 +242,22 @@ module _ (now : ℕ) (s : Plain) (steady : IsSteady s) (x : Stepped (List ℕ)) 
         parts : (is_free_peer tried.value.host s ≡ true) × (passes (is_over_wait now) (find_peer tried.value.host s) ≡ true)
         parts = and_parts (is_free_peer tried.value.host s) (passes (is_over_wait now) (find_peer tried.value.host s)) reached
 
-        open_to : (not (list_any (is_hand_to tried.value.host) s.hands) ≡ true) × (passes has_number_left (find_peer tried.value.host s) ≡ true)
-        open_to = and_parts (not (list_any (is_hand_to tried.value.host) s.hands)) (passes has_number_left (find_peer tried.value.host s)) parts.0
+        open_to : Each (has_room_for_hand tried.value.host s ∷ passes has_number_left (find_peer tried.value.host s)
+            ∷ passes (is_within_window tried.value.host s) (find_peer tried.value.host s) ∷ [])
+        open_to = each (has_room_for_hand tried.value.host s) (passes has_number_left (find_peer tried.value.host s)
+            ∷ passes (is_within_window tried.value.host s) (find_peer tried.value.host s) ∷ []) parts.0
 
         by : (o : Option Peer) → find_peer tried.value.host s ≡ o → opened_with o tried.value now s r ≡ x → IsStart s x
         by None known e = absurd (true≢false (sym parts.1 ∙ ap (passes (is_over_wait now)) known))
         by (Some peer) known e = begins (HandOpened tried.value.host peer.next r.id tried.value.queue now)
             (opened_with (Some peer) tried.value now s r) refl e refl (
               chained (row_passes may_hop r.id s) (passes (is_next peer.next) (find_peer tried.value.host s)
-                  ∷ not (list_any (is_hand_to tried.value.host) s.hands)
-                  ∷ []) (
+                  ∷ has_room_for_hand tried.value.host s ∷ passes (is_within_window tried.value.host s) (find_peer tried.value.host s) ∷ []) (
                     may_go hop,
                     (
                       ap (passes (is_next peer.next)) known ∙ and_from (peer.next == peer.next) (nat_lt peer.next last_u64) (nat_eq_equiv.refl peer.next)
-                          (sym (ap (passes has_number_left) known) ∙ open_to.1),
-                      (open_to.0, tt),
+                          (sym (ap (passes has_number_left) known) ∙ open_to.1.0),
+                      (open_to.0, (open_to.1.1.0, tt)),
                     ),
                   ),
               refl,

@@ -1,5 +1,5 @@
 -- Which steps halt their host.
-use Rattle.std.proofs.Common.{◌≡◌, ℕ, Bool, true, false, List, [], ◌∷◌, Option, None, Some, Result, Ok, Err, refl, is_ok, if◌then◌else◌, ◌&&◌}
+use Rattle.std.proofs.Common.{◌≡◌, ℕ, Bool, true, false, List, Option, None, Some, Result, Ok, Err, refl, is_ok, if◌then◌else◌, ◌&&◌}
 use Rattle.std.specs.List.{list_any}
 use Rattle.nqs_state.specs.Keys.{is_file}
 use Rattle.nqs_state.specs.State.{Plain}
@@ -26,11 +26,11 @@ use Rattle.nqs_rules.specs.Find.{find_row, find_hand, find_peer, has_promise, ha
 use Rattle.nqs_rules.specs.Rows.{queue_meant, submit_causes, delete_causes}
 use Rattle.nqs_rules.specs.Fits.{edit_causes}
 use Rattle.nqs_rules.specs.Shutdowns.{is_shutdown, shuts_down}
-use Rattle.nqs_rules.specs.Handover.{closes, was_given, offer_causes, offer_by, ready_phase, ready_without, ready_with, refused_phase, refused_with}
-use Rattle.nqs_rules.specs.Handover.{commit_without, done_phase}
-use Rattle.nqs_rules.specs.Handover.{done_with, on_offer, on_ready, on_refused, on_commit, on_done, on_abort}
-use Rattle.nqs_rules.specs.Stage.{has_left, is_got, stage_taken, on_stage, on_staged, on_written}
-use Rattle.nqs_rules.specs.Step.{Asker, unless_refused, submit_to, delete_meant, delete_row, stat_causes, on_allowed, on_message, is_start, ended_by}
+use Rattle.nqs_rules.specs.Handover.{closes, was_given, offer_causes, offer_by, ready_phase, ready_with, refused_phase, refused_with}
+use Rattle.nqs_rules.specs.Handover.{done_phase}
+use Rattle.nqs_rules.specs.Handover.{done_with}
+use Rattle.nqs_rules.specs.Stage.{has_left, is_got, on_stage}
+use Rattle.nqs_rules.specs.Step.{Asker, unless_refused, submit_to, delete_meant, stat_causes, on_allowed, on_message, is_start, ended_by}
 use Rattle.nqs_rules.specs.Step.{unlaunched_by, step}
 use Rattle.nqs_rules.specs.Stepped.{Stepped}
 
@@ -80,10 +80,10 @@ granted_halts a false (Err e) x is = refl
 
 -- datagrams
 
-offer_halts : (r : Result (Unit {0}) Refusal) (peer : HostId) (n : ℕ) (queue : List ℕ) (c : Carried) (script : List ℕ) (s : Plain)
-    → Stays (offer_by r peer n queue c script s)
-offer_halts (Ok u) peer n queue c script s = refl
-offer_halts (Err e) peer n queue c script s = refl
+offer_halts : (r : Result (Unit {0}) Refusal) (peer : HostId) (n low : ℕ) (queue : List ℕ) (c : Carried) (script : List ℕ) (s : Plain)
+    → Stays (offer_by r peer n low queue c script s)
+offer_halts (Ok u) peer n low queue c script s = refl
+offer_halts (Err e) peer n low queue c script s = refl
 
 ready_halts : (p : Phase) (peer : HostId) (n : ℕ) (s : Plain) → Stays (ready_phase p peer n s)
 ready_halts Offered peer n s = refl
@@ -114,8 +114,8 @@ stage_halts peer n path bytes s =
     neither (passes (is_got n) (find_peer peer s)) _ _ refl (neither (has_left s.file_next 0) _ _ refl refl)
 
 message_halts : (peer : HostId) (b : Body) (s : Plain) → Stays (on_message peer b s)
-message_halts peer (body.Offer n queue c script) s = neither (closes n (find_peer peer s)) _ _ refl (neither (has_promise peer n s) _ _ refl
-    (offer_halts (first_refusal (offer_causes peer queue c s)) peer n queue c script s))
+message_halts peer (body.Offer n low queue c script) s = neither (closes n (find_peer peer s)) _ _ refl (neither (has_promise peer n s) _ _ refl
+    (offer_halts (first_refusal (offer_causes peer low queue c s)) peer n low queue c script s))
 message_halts peer (body.Ready n) s = ready_with_halts (find_hand peer n s) peer n s
 message_halts peer (body.Refused n refusal) s = refused_halts (find_hand peer n s) peer n refusal
 message_halts peer (body.Commit n) s = neither (has_promise peer n s) _ _ refl (neither (closes n (find_peer peer s)) _ _ refl refl)

@@ -14,7 +14,7 @@ use Rattle.nqs_rules.specs.Conf.{conf_applied}
 use Rattle.nqs_rules.specs.Limits.{limits_applied}
 use Rattle.nqs_rules.specs.Devices.{devices_applied}
 use Rattle.nqs_rules.specs.Rows.{rows_applied, next_arrival}
-use Rattle.nqs_rules.specs.Routing.{close, refusal_noted, dests_for}
+use Rattle.nqs_rules.specs.Routing.{close, raise_floor, refusal_noted, dests_for}
 use Rattle.nqs_types.specs.declared.ids.HostId.{HostId}
 use Rattle.nqs_types.specs.declared.ids.RequestId.{RequestId}
 use Rattle.nqs_types.specs.declared.ids.PeerNumber.{PeerNumber}
@@ -30,7 +30,8 @@ use Rattle.nqs_types.specs.declared.request.Peer.{Peer}
 use Rattle.nqs_types.specs.declared.change.OutPart.{OutPart}
 use Rattle.nqs_types.specs.declared.change.Change.{Change}
 use Rattle.nqs_types.specs.declared.change.Change.TheVariants.{Site, Submitted, Deleted, Doomed, Started, Ended, Unlaunched, Boot, Edited, HandOpened}
-use Rattle.nqs_types.specs.declared.change.Change.TheVariants.{HandCommitted, HandRefused, HandsSilent, HandDone, Promised, Accepted, Dropped, MovedLocal}
+use Rattle.nqs_types.specs.declared.change.Change.TheVariants.{HandCommitted, HandRefused, HandsSilent, HandDone, OldPromised, Promised, Accepted, Dropped}
+use Rattle.nqs_types.specs.declared.change.Change.TheVariants.{MovedLocal}
 use Rattle.nqs_types.specs.declared.change.Change.TheVariants.{RefusedLocal, HeldFar, StageGot, StageGone, FileGone}
 use Rattle.nqs_types.specs.declared.edit.AccessEdit.{AccessEdit}
 use Rattle.nqs_types.specs.declared.edit.AccessEdit.TheVariants.{SetUnrestrictedAccess, SetNoAccess, AddUser, RemoveUser, AddManager, RemoveManager}
@@ -191,12 +192,19 @@ module _ {E : Type 0} where
   abbrev pub is_promise_of : HostId → Promise E → Bool
   is_promise_of peer p = same_host peer p.peer
 
-  -- A promise goes behind the others, in place of an older one of that peer. The numbers before its
-  -- own are closed.
-  abbrev pub promised : HostId → ℕ → List ℕ → Carried → E → State E → State E
-  promised peer number queue c script s = record (change_peer peer (close (number - 1)) s) {
-    promises = filter (λ p. not (is_promise_of peer p)) s.promises ++ record { peer = peer; number = number; row = new_row c queue (s.arrivals + 1) script }
-        ∷ [];
+  -- whether a promise was made to this peer, under a number below its low: it has no hand any more
+  abbrev pub is_outlived : HostId → ℕ → Promise E → Bool
+  is_outlived peer low p = is_promise_of peer p && nat_lt p.number low
+
+  -- the promises that an offer with this low leaves
+  abbrev pub promises_from : HostId → ℕ → List (Promise E) → List (Promise E)
+  promises_from peer low promises = filter (λ p. not (is_outlived peer low p)) promises
+
+  -- A promise goes behind the others. The numbers below its low are closed, and promises under
+  -- these go.
+  abbrev pub promised : HostId → ℕ → ℕ → List ℕ → Carried → E → State E → State E
+  promised peer number low queue c script s = record (change_peer peer (raise_floor (low - 1)) s) {
+    promises = promises_from peer low s.promises ++ record { peer = peer; number = number; row = new_row c queue (s.arrivals + 1) script } ∷ [];
     arrivals = s.arrivals + 1;
   }
 
@@ -272,7 +280,8 @@ module _ {E : Type 0} where
   applied (HandRefused peer number refusal) s = hand_refused (peer_number peer number) refusal (find_hand peer number s) s
   applied (HandsSilent until hands) s = hands_silent until hands s
   applied (HandDone peer number) s = drop_hand (peer_number peer number) s
-  applied (Promised peer number queue c script) s = promised peer number queue c script s
+  applied (OldPromised peer number queue c script) s = promised peer number number queue c script s
+  applied (Promised peer number low queue c script) s = promised peer number low queue c script s
   applied (Accepted peer number) s = accepted (peer_number peer number) (find_promise peer number s) s
   applied (Dropped peer number) s = dropped (peer_number peer number) s
   applied (MovedLocal id queue) s = change_row id (moved_local queue (s.arrivals + 1)) (next_arrival s)

@@ -23,6 +23,7 @@ use Rattle.nqs_types.specs.declared.refusal.Refusal.TheVariants.{NoQueue, NoHost
 use Rattle.nqs_types.specs.declared.edit.ConfEdit.{ConfEdit}
 use Rattle.nqs_types.specs.declared.edit.ConfEdit.TheVariants.{CreateBatchQueue, CreateDeviceQueue, CreatePipeQueue, DeleteQueue, EnableQueue, DisableQueue}
 use Rattle.nqs_types.specs.declared.edit.ConfEdit.TheVariants.{StartQueue, StopQueue, PurgeQueue, SetPriority, SetRunLimit, AddDestination, RemoveDestination}
+use Rattle.nqs_types.specs.declared.edit.ConfEdit.TheVariants.{FirstDestination}
 use Rattle.nqs_types.specs.declared.edit.ConfEdit.TheVariants.{SetDefaultQueue, SetNoDefaultQueue, SetPatience, SetRetryWait}
 
 -- whether a queue carries requests to other queues
@@ -68,6 +69,12 @@ module _ {E : Type 0} where
   abbrev pub queue_causes : List ℕ → State E → List Cause
   queue_causes q s = cause (not (has_queue q s)) (NoQueue q) ∷ []
 
+  -- that there is no such queue, that it isn't a pipe queue, that it hasn't this destination
+  abbrev pub listed_dest_causes : NamedDest → List ℕ → State E → List Cause
+  listed_dest_causes d q s =
+      cause (not (has_queue q s)) (NoQueue q) ∷ cause (not (passes is_pipe_queue (find_queue q s))) WrongKind
+      ∷ cause (not (passes (lists_dest (meant_dest d s)) (find_queue q s))) NoDest ∷ []
+
   -- the causes for which an edit of queues and parameters is refused, in order
   abbrev pub conf_causes : ConfEdit → State E → List Cause
   conf_causes (CreateBatchQueue q _ _ _) s = create_causes q s
@@ -84,9 +91,8 @@ module _ {E : Type 0} where
   conf_causes (AddDestination d q) s =
       cause (not (has_queue q s)) (NoQueue q) ∷ no_host_cause d.host s ∷ cause (not (passes is_pipe_queue (find_queue q s))) WrongKind
       ∷ cause (passes (lists_dest (meant_dest d s)) (find_queue q s)) DestExists ∷ cause (passes has_full_dests (find_queue q s)) TooMany ∷ []
-  conf_causes (RemoveDestination d q) s =
-      cause (not (has_queue q s)) (NoQueue q) ∷ cause (not (passes is_pipe_queue (find_queue q s))) WrongKind
-      ∷ cause (not (passes (lists_dest (meant_dest d s)) (find_queue q s))) NoDest ∷ []
+  conf_causes (RemoveDestination d q) s = listed_dest_causes d q s
+  conf_causes (FirstDestination d q) s = listed_dest_causes d q s
   conf_causes (SetDefaultQueue q) s = queue_causes q s
   conf_causes SetNoDefaultQueue s = []
   conf_causes (SetPatience _) s = []
@@ -106,6 +112,11 @@ with_dest (Some dest) d = record d { dests = d.dests ++ dest ∷ [] }
 abbrev pub without_dest : Option Dest → QueueDef → QueueDef
 without_dest None d = d
 without_dest (Some dest) d = record d { dests = filter (λ other. not (same_dest dest other)) d.dests }
+
+-- a queue whose destination comes first, and the others behind it as they stood
+abbrev pub with_dest_first : Option Dest → QueueDef → QueueDef
+with_dest_first None d = d
+with_dest_first (Some dest) d = record d { dests = dest ∷ without_first (same_dest dest) d.dests }
 
 -- what an edit makes of its queue, where it looks at the queue alone
 abbrev pub conf_edited : ConfEdit → QueueDef → QueueDef
@@ -159,6 +170,7 @@ module _ {E : Type 0} where
   conf_applied (SetRunLimit n q) s = change_queue q (conf_edited (SetRunLimit n q)) s
   conf_applied (AddDestination d q) s = change_queue q (with_dest (meant_dest d s)) s
   conf_applied (RemoveDestination d q) s = change_queue q (without_dest (meant_dest d s)) s
+  conf_applied (FirstDestination d q) s = change_queue q (with_dest_first (meant_dest d s)) s
   conf_applied (SetDefaultQueue q) s = record s { default_queue = Some q }
   conf_applied SetNoDefaultQueue s = record s { default_queue = None }
   conf_applied (SetPatience n) s = record s { patience = n }

@@ -3,7 +3,7 @@ use Rattle.std.specs.Prelude.{ℕ, List, [], ◌∷◌, get_or}
 use Rattle.nqs_base.specs.declared.extent.Extent.{Extent}
 use Rattle.nqs_types.specs.declared.change.OutPart.{OutPart}
 use Rattle.nqs_types.specs.declared.change.Change.{Change}
-use Rattle.nqs_types.specs.declared.change.Change.TheVariants.{Submitted, Ended, Promised, StageGot}
+use Rattle.nqs_types.specs.declared.change.Change.TheVariants.{Submitted, Ended, OldPromised, Promised, StageGot}
 use Rattle.nqs_rules.specs.Stepped.{map_change}
 
 -- each part with its own bytes
@@ -16,6 +16,7 @@ filled_parts (part ∷ parts) (put ∷ puts) = record { path = part.path; bytes 
 abbrev pub filled : Change Extent → List (List ℕ) → Change (List ℕ)
 filled (Submitted queue job _) puts = Submitted queue job (get_or puts 0 [])
 filled (Ended id parts) puts = Ended id (filled_parts parts puts)
-filled (Promised peer number queue c _) puts = Promised peer number queue c (get_or puts 0 [])
+filled (OldPromised peer number queue c _) puts = OldPromised peer number queue c (get_or puts 0 [])
+filled (Promised peer number low queue c _) puts = Promised peer number low queue c (get_or puts 0 [])
 filled (StageGot peer number path _) puts = StageGot peer number path (get_or puts 0 [])
 filled c puts = map_change (λ _. []) c

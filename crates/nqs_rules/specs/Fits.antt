@@ -1,5 +1,5 @@
 -- When a change may be made of a state.
-use Rattle.std.specs.Prelude.{ℕ, ◌+◌, Bool, true, false, not, ◌&&◌, ◌||◌, ◌==◌, nat_lt, nat_le, List, filter, length, Option, None, Some, is_ok}
+use Rattle.std.specs.Prelude.{ℕ, ◌+◌, Bool, true, false, not, ◌&&◌, ◌||◌, ◌==◌, nat_lt, nat_le, List, length, Option, None, Some, is_ok}
 use Rattle.std.specs.List.{list_any, list_all}
 use Rattle.nqs_state.specs.State.{State}
 use Rattle.nqs_state.specs.Keys.{is_file}
@@ -11,17 +11,19 @@ use Rattle.nqs_rules.specs.Conf.{conf_causes}
 use Rattle.nqs_rules.specs.Limits.{limits_causes}
 use Rattle.nqs_rules.specs.Devices.{devices_causes, is_busy}
 use Rattle.nqs_rules.specs.Rows.{rows_causes, arrivals_used, is_host_full}
-use Rattle.nqs_rules.specs.Routing.{is_closed, is_hand_to}
-use Rattle.nqs_rules.specs.Applied.{is_promise_of}
+use Rattle.nqs_rules.specs.Routing.{is_closed, has_room_for_hand, is_within_window}
+use Rattle.nqs_rules.specs.Applied.{promises_from}
 use Rattle.nqs_types.specs.declared.ids.HostId.{HostId}
 use Rattle.nqs_types.specs.declared.ids.RequestId.{RequestId}
 use Rattle.nqs_types.specs.declared.ids.PeerNumber.{PeerNumber}
+use Rattle.nqs_types.specs.declared.request.Carried.{Carried}
 use Rattle.nqs_types.specs.declared.request.Row.{Row}
 use Rattle.nqs_types.specs.declared.request.Hand.{Hand}
 use Rattle.nqs_types.specs.declared.request.Peer.{Peer}
 use Rattle.nqs_types.specs.declared.change.Change.{Change}
 use Rattle.nqs_types.specs.declared.change.Change.TheVariants.{Site, Submitted, Deleted, Doomed, Started, Ended, Unlaunched, Boot, Edited, HandOpened}
-use Rattle.nqs_types.specs.declared.change.Change.TheVariants.{HandCommitted, HandRefused, HandsSilent, HandDone, Promised, Accepted, Dropped, MovedLocal}
+use Rattle.nqs_types.specs.declared.change.Change.TheVariants.{HandCommitted, HandRefused, HandsSilent, HandDone, OldPromised, Promised, Accepted, Dropped}
+use Rattle.nqs_types.specs.declared.change.Change.TheVariants.{MovedLocal}
 use Rattle.nqs_types.specs.declared.change.Change.TheVariants.{RefusedLocal, HeldFar, StageGot, StageGone, FileGone}
 use Rattle.nqs_types.specs.declared.edit.Edit.{Edit}
 use Rattle.nqs_types.specs.declared.edit.Edit.TheVariants.{Conf, Limits as LimitsOf, Access as AccessOf, Devices as DevicesOf, Rows as RowsOf}
@@ -97,9 +99,21 @@ module _ {E : Type 0} where
   abbrev pub is_site_host : HostId → State E → Bool
   is_site_host host s = nat_lt host.0 (length s.site)
 
-  -- with the offered request the host would have too many; a promise that it replaces isn't counted
-  abbrev pub offer_full : HostId → State E → Bool
-  offer_full peer s = nat_le 10000 (length s.rows + length (filter (λ p. not (is_promise_of peer p)) s.promises))
+  -- with the offered request the host would have too many; promises that its low ends aren't
+  -- counted
+  abbrev pub offer_full : HostId → ℕ → State E → Bool
+  offer_full peer low s = nat_le 10000 (length s.rows + length (promises_from peer low s.promises))
+
+  -- an offer of this number, with this low, may be promised
+  abbrev pub promise_fits : HostId → ℕ → ℕ → List ℕ → Carried → State E → Bool
+  promise_fits peer number low queue c s =
+      has_queue queue s && passes (is_open_number number) (find_peer peer s) && not (has_promise peer number s) && is_site_host c.id.host s && is_unknown c.id s
+      && not (offer_full peer low s) && not (arrivals_used s)
+
+  -- a handover of the request may be opened under this number
+  abbrev pub hand_fits : HostId → ℕ → RequestId → State E → Bool
+  hand_fits peer number id s =
+      row_passes may_hop id s && passes (is_next number) (find_peer peer s) && has_room_for_hand peer s && passes (is_within_window peer s) (find_peer peer s)
 
 -- F is what stands for the bytes in the change, which no test reads
 module _ {E F : Type 0} where
@@ -114,14 +128,13 @@ module _ {E F : Type 0} where
   fits (Unlaunched id) s = row_passes runs_now id s
   fits Boot s = true
   fits (Edited e) s = edit_fits e s
-  fits (HandOpened peer number id _ _) s = row_passes may_hop id s && passes (is_next number) (find_peer peer s) && not (list_any (is_hand_to peer) s.hands)
+  fits (HandOpened peer number id _ _) s = hand_fits peer number id s
   fits (HandCommitted peer number) s = hand_passes is_offered_hand peer number s
   fits (HandRefused peer number _) s = hand_passes is_offered_hand peer number s
   fits (HandsSilent _ ks) s = are_offered ks s
   fits (HandDone peer number) s = hand_passes is_committed_hand peer number s
-  fits (Promised peer number queue c _) s =
-      has_queue queue s && passes (is_open_number number) (find_peer peer s) && not (has_promise peer number s) && is_site_host c.id.host s && is_unknown c.id s
-      && not (offer_full peer s) && not (arrivals_used s)
+  fits (OldPromised peer number queue c _) s = promise_fits peer number number queue c s
+  fits (Promised peer number low queue c _) s = promise_fits peer number low queue c s
   fits (Accepted peer number) s = has_promise peer number s
   fits (Dropped peer number) s = has_promise peer number s
   fits (MovedLocal id queue) s = row_passes may_hop id s && has_queue queue s && not (arrivals_used s)

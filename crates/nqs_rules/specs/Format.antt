@@ -34,7 +34,7 @@ new_queue name kind priority run_limit pipe_only dests = record {
 
 -- a peer from which nothing came and to which nothing went
 abbrev pub new_peer : Peer
-new_peer = record { next = 1; closed = 0; wait = 0; stage_next = 1; stage_got = 0 }
+new_peer = record { next = 1; floor = 0; closed = []; wait = 0; stage_next = 1; stage_got = 0 }
 
 -- the queue that a formatted host has: enabled and stopped
 abbrev pub first_queue : QueueDef

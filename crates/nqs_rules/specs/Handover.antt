@@ -8,7 +8,7 @@ use Rattle.nqs_rules.specs.Tests.{passes, is_offered, same_host, last_u64}
 use Rattle.nqs_rules.specs.Causes.{Cause, cause, first_refusal, refusal_number}
 use Rattle.nqs_rules.specs.Find.{has_queue, find_queue, has_row, find_row, find_hand, has_promise, find_peer, peer_number}
 use Rattle.nqs_rules.specs.Rows.{causes_of, arrivals_used, job_causes}
-use Rattle.nqs_rules.specs.Routing.{is_closed}
+use Rattle.nqs_rules.specs.Routing.{is_closed, low}
 use Rattle.nqs_rules.specs.Fits.{offer_full}
 use Rattle.nqs_rules.specs.Stepped.{Stepped, Pending, quiet, says, makes, message, ready}
 use Rattle.nqs_types.specs.declared.ids.HostId.{HostId}
@@ -52,8 +52,8 @@ name_at place site = unwrap_or (slice_get site place) []
 
 module _ {E : Type 0} where
   -- an offer of a row, whose script is in the spool
-  abbrev pub offer : HostId → HostId → ℕ → List ℕ → Row E → Pending E
-  offer me peer number queue r = (message me peer (body.Offer number queue (carried_of r) []), Some r.script)
+  abbrev pub offer : HostId → HostId → ℕ → ℕ → List ℕ → Row E → Pending E
+  offer me peer number low queue r = (message me peer (body.Offer number low queue (carried_of r) []), Some r.script)
 
   -- the word that a request is its receiver's
   abbrev pub send_commit : State E → HostId → ℕ → Pending E
@@ -81,9 +81,11 @@ module _ {E : Type 0} where
 
   -- a handover is opened
 
-  -- a request is offered to a destination
+  -- a request is offered to a destination; the low is that with the new hand, whose number is the
+  -- greatest
   abbrev pub opened : Peer → Dest → ℕ → State E → Row E → Stepped E
-  opened p dest now s r = makes (HandOpened dest.host p.next r.id dest.queue now) (offer s.me dest.host p.next dest.queue r ∷ [])
+  opened p dest now s r =
+      makes (HandOpened dest.host p.next r.id dest.queue now) (offer s.me dest.host p.next (low dest.host p.next s.hands) dest.queue r ∷ [])
 
   -- the same, if the destination's host is a peer
   abbrev pub opened_with : Option Peer → Dest → ℕ → State E → Row E → Stepped E
@@ -110,21 +112,22 @@ offer_entry_causes c d = job_causes d c.job FromPipe
 
 module _ {E : Type 0} where
   -- the causes for which an offer is refused, in order
-  abbrev pub offer_causes : HostId → List ℕ → Carried → State E → List Cause
-  offer_causes peer queue c s =
+  abbrev pub offer_causes : HostId → ℕ → List ℕ → Carried → State E → List Cause
+  offer_causes peer low queue c s =
       cause (has_row c.id s || is_not_given_here c.id s) (RequestExists (named_of c.id s)) ∷ cause (not (has_queue queue s)) (NoQueue queue)
-      ∷ causes_of (offer_entry_causes c) (find_queue queue s) ++ cause (offer_full peer s) HostFull ∷ cause (arrivals_used s) NumbersUsed ∷ []
+      ∷ causes_of (offer_entry_causes c) (find_queue queue s) ++ cause (offer_full peer low s) HostFull ∷ cause (arrivals_used s) NumbersUsed ∷ []
 
   -- an offer is promised, or refused
-  abbrev pub offer_by : Result (Unit {0}) Refusal → HostId → ℕ → List ℕ → Carried → List ℕ → State E → Stepped E
-  offer_by (Err refusal) peer n queue c script s = says (send_refused s peer n (refusal_number refusal) ∷ [])
-  offer_by (Ok _) peer n queue c script s = makes (Promised peer n queue c script) (send_ready s peer n ∷ [])
+  abbrev pub offer_by : Result (Unit {0}) Refusal → HostId → ℕ → ℕ → List ℕ → Carried → List ℕ → State E → Stepped E
+  offer_by (Err refusal) peer n low queue c script s = says (send_refused s peer n (refusal_number refusal) ∷ [])
+  offer_by (Ok _) peer n low queue c script s = makes (Promised peer n low queue c script) (send_ready s peer n ∷ [])
 
   -- what a host does at an offer: it promises, says again that it has, or refuses
-  abbrev pub on_offer : HostId → ℕ → List ℕ → Carried → List ℕ → State E → Stepped E
-  on_offer peer n queue c script s =
+  abbrev pub on_offer : HostId → ℕ → ℕ → List ℕ → Carried → List ℕ → State E → Stepped E
+  on_offer peer n low queue c script s =
       if closes n (find_peer peer s) then says (send_done s peer n ∷ [])
-      else (if has_promise peer n s then says (send_ready s peer n ∷ []) else offer_by (first_refusal (offer_causes peer queue c s)) peer n queue c script s)
+      else (if has_promise peer n s then says (send_ready s peer n ∷ [])
+      else offer_by (first_refusal (offer_causes peer low queue c s)) peer n low queue c script s)
 
   -- READY and INQUIRE
 
@@ -204,19 +207,23 @@ module _ {E : Type 0} where
   abbrev pub silent_hands : ℕ → State E → List PeerNumber
   silent_hands now s = map (λ h. peer_number h.peer h.number) (filter (is_silent now s) s.hands)
 
-  -- an offer is sent again, with its request
-  abbrev pub repeat_offer : State E → Hand → Option (Row E) → List (Pending E)
-  repeat_offer s h None = []
-  repeat_offer s h (Some r) = offer s.me h.peer h.number h.queue r ∷ []
+  -- the hands that stay at this moment
+  abbrev pub staying_hands : ℕ → State E → List Hand
+  staying_hands now s = filter (λ h. not (is_silent now s h)) s.hands
+
+  -- an offer is sent again, with its request, and the low of the hands that stay
+  abbrev pub repeat_offer : ℕ → State E → Hand → Option (Row E) → List (Pending E)
+  repeat_offer now s h None = []
+  repeat_offer now s h (Some r) = offer s.me h.peer h.number (low h.peer h.number (staying_hands now s)) h.queue r ∷ []
 
   -- an offer or a commit is sent again
-  abbrev pub repeat_phase : Phase → State E → Hand → List (Pending E)
-  repeat_phase Offered s h = repeat_offer s h (find_row h.id s)
-  repeat_phase Committed s h = send_commit s h.peer h.number ∷ []
+  abbrev pub repeat_phase : Phase → ℕ → State E → Hand → List (Pending E)
+  repeat_phase Offered now s h = repeat_offer now s h (find_row h.id s)
+  repeat_phase Committed now s h = send_commit s h.peer h.number ∷ []
 
   -- what a tick says of a hand that isn't silent
   abbrev pub repeat_hand : ℕ → State E → Hand → List (Pending E)
-  repeat_hand now s h = if is_silent now s h then [] else repeat_phase h.phase s h
+  repeat_hand now s h = if is_silent now s h then [] else repeat_phase h.phase now s h
 
   -- what a tick sends again of all handovers
   abbrev pub repeated_hands : ℕ → State E → List (Pending E)

@@ -45,9 +45,14 @@ is_user_list_short (Users users) = nat_le (length users) 256
 abbrev pub is_given : ℕ → ℕ → Bool
 is_given number next = nat_le 1 number && nat_lt number next
 
--- the numbers that a peer gets next begin at 1
+-- each number is greater than the one before it, the first one than this
+abbrev pub ascends_from : ℕ → List ℕ → Bool
+ascends_from n [] = true
+ascends_from n (m ∷ ms) = nat_lt n m && ascends_from m ms
+
+-- the numbers that a peer gets next begin at 1, and the closed ones ascend above the floor
 abbrev pub is_peer_right : Peer → Bool
-is_peer_right p = nat_le 1 p.next && nat_le 1 p.stage_next
+is_peer_right p = nat_le 1 p.next && nat_le 1 p.stage_next && ascends_from p.floor p.closed
 
 -- a hand's number was given to its peer
 abbrev pub is_hand_given : ℕ → Peer → Bool
@@ -158,10 +163,6 @@ module _ {E : Type 0} where
   abbrev pub has_few_hands : State E → Hand → Bool
   has_few_hands s h = nat_le (length (hands_to h.peer s)) 8
 
-  -- the peers of the promises
-  abbrev pub promisers : State E → List HostId
-  promisers s = map (λ p. p.peer) s.promises
-
   -- 1 to 16 hosts, this one among them, and what is known of each
   abbrev pub is_site_right : State E → Bool
   is_site_right s = nat_le 1 (length s.site) && nat_le (length s.site) 16 && is_site_host s.me s && length s.peers == length s.site
@@ -189,7 +190,6 @@ module _ {E : Type 0} where
     pub complexes : list_all (is_complex_right s) s.complexes ≡ true
     pub rows : list_all (is_row_right s) s.rows ≡ true
     pub promises : list_all (is_promise_right s) s.promises ≡ true
-    pub promisers : are_distinct same_host (promisers s) ≡ true
     pub hands : list_all (is_hand_right s) s.hands ≡ true
     pub few : list_all (has_few_hands s) s.hands ≡ true
     pub offers : are_distinct id_eq (offered_ids s) ≡ true

@@ -6,6 +6,7 @@ pub mod Find
 pub mod Edits
 pub mod Access
 pub mod Conf
+pub mod PutFirst
 pub mod Limits
 pub mod Devices
 pub mod Routing

@@ -1,5 +1,6 @@
 -- Destinations of pipe queues: which one is tried, and what a refusal or a silence leaves.
-use Rattle.std.specs.Prelude.{ℕ, Bool, true, false, not, ◌&&◌, ◌||◌, nat_lt, nat_le, List, [], ◌∷◌, ◌++◌, filter, position, Option, None, Some}
+use Rattle.std.specs.Prelude.{ℕ, ◌+◌, Bool, true, false, not, ◌&&◌, ◌||◌, ◌==◌, nat_lt, nat_le, min, max, if◌then◌else◌, List, [], ◌∷◌, ◌++◌, filter, length}
+use Rattle.std.specs.Prelude.{position, Option, None, Some}
 use Rattle.std.specs.List.{list_any, list_all}
 use Rattle.nqs_state.specs.State.{State}
 use Rattle.nqs_rules.specs.Tests.{passes, same_host, same_dest, last_u64}
@@ -13,17 +14,36 @@ use Rattle.nqs_types.specs.declared.request.Hand.{Hand}
 use Rattle.nqs_types.specs.declared.request.Peer.{Peer}
 use Rattle.nqs_types.specs.declared.queue.QueueDef.{QueueDef}
 
--- a number of a handover from a peer is closed
-abbrev pub is_closed : ℕ → Peer → Bool
-is_closed number p = nat_le number p.closed
+-- a number stands in a list
+abbrev pub has_number : ℕ → List ℕ → Bool
+has_number number numbers = list_any (λ n. number == n) numbers
 
--- nothing new may come under a number that isn't closed yet: the number is closed by this
+-- a number of a handover from a peer is closed: no offer under it is taken any more
+abbrev pub is_closed : ℕ → Peer → Bool
+is_closed number p = nat_le number p.floor || has_number number p.closed
+
+-- a number joins ascending ones, before the first that is greater
+abbrev pub joined : ℕ → List ℕ → List ℕ
+joined number [] = number ∷ []
+joined number (n ∷ ns) = if nat_lt number n then number ∷ n ∷ ns else n ∷ joined number ns
+
+-- a number is closed that wasn't: what it was given for is over
 abbrev pub close : ℕ → Peer → Peer
-close number p = record p { closed = number }
+close number p = record p { closed = joined number p.closed }
+
+-- each number of a peer up to this one is closed
+abbrev pub raise_floor : ℕ → Peer → Peer
+raise_floor number p = record p { floor = max p.floor number; closed = filter (nat_lt (max p.floor number)) p.closed }
 
 -- whether a hand goes to this peer
 abbrev pub is_hand_to : HostId → Hand → Bool
 is_hand_to peer h = same_host peer h.peer
+
+-- A peer's low, by its next number: the least of that and of the numbers of its hands. No hand
+-- with a smaller number is left, so its host may close those.
+abbrev pub low : HostId → ℕ → List Hand → ℕ
+low peer next [] = next
+low peer next (h ∷ hs) = if is_hand_to peer h then min h.number (low peer next hs) else low peer next hs
 
 -- whether a peer can be given another number
 abbrev pub has_number_left : Peer → Bool
@@ -42,9 +62,19 @@ abbrev pub was_refused : Dest → List Refused → Bool
 was_refused dest refused = list_any (refuses dest) refused
 
 module _ {E : Type 0} where
-  -- no handover to the peer is open, and there is a number for one
+  -- at most seven handovers to the peer are open: eight are the most
+  abbrev pub has_room_for_hand : HostId → State E → Bool
+  has_room_for_hand peer s = nat_lt (length (filter (is_hand_to peer) s.hands)) 8
+
+  -- The next number is less than 64 above the low. So a receiver keeps at most 64 closed numbers
+  -- apart, whatever becomes of the oldest handover.
+  abbrev pub is_within_window : HostId → State E → Peer → Bool
+  is_within_window peer s p = nat_lt p.next (low peer p.next s.hands + 64)
+
+  -- fewer than eight handovers to the peer are open, and there is a number for one
   abbrev pub is_free_peer : HostId → State E → Bool
-  is_free_peer peer s = not (list_any (is_hand_to peer) s.hands) && passes has_number_left (find_peer peer s)
+  is_free_peer peer s =
+      has_room_for_hand peer s && passes has_number_left (find_peer peer s) && passes (is_within_window peer s) (find_peer peer s)
 
   -- a destination on another host is tried where its host is free and not waited for
   abbrev pub is_reachable : ℕ → HostId → State E → Bool

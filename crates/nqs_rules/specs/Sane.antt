@@ -14,7 +14,7 @@ use Rattle.nqs_types.specs.declared.edit.Edit.{Edit}
 use Rattle.nqs_types.specs.declared.edit.Edit.TheVariants.{Conf, Limits as LimitsOf, Access as AccessOf, Devices as DevicesOf, Rows as RowsOf}
 use Rattle.nqs_types.specs.declared.change.OutPart.{OutPart}
 use Rattle.nqs_types.specs.declared.change.Change.{Change}
-use Rattle.nqs_types.specs.declared.change.Change.TheVariants.{Site, Submitted, Ended, Edited, Promised, StageGot}
+use Rattle.nqs_types.specs.declared.change.Change.TheVariants.{Site, Submitted, Ended, Edited, OldPromised, Promised, StageGot}
 use Rattle.nqs_types.specs.declared.message.Message.{Message}
 use Rattle.nqs_types.specs.declared.message.Body.{Body}
 use Rattle.nqs_types.specs.declared.message.Body.TheVariants as body
@@ -47,13 +47,18 @@ is_sane_carried c = is_sane_id c.id && is_sane_job c.job && nat_lt c.starts 6553
 abbrev pub has_path : {E : Type 0} → OutPart E → Bool
 has_path part = is_path part.path
 
+-- an offer's low is from 1 to its number
+abbrev pub is_sane_low : ℕ → ℕ → Bool
+is_sane_low low number = nat_le 1 low && nat_le low number
+
 -- the values of a change
 abbrev pub is_sane_change : {E : Type 0} → Change E → Bool
 is_sane_change (Site me site) = nat_lt me.0 (length site) && nat_le (length site) 16
 is_sane_change (Submitted _ job _) = is_sane_job job
 is_sane_change (Ended _ parts) = nat_le (length parts) 2 && list_all has_path parts
 is_sane_change (Edited e) = is_sane_edit e
-is_sane_change (Promised _ _ _ c _) = is_sane_carried c
+is_sane_change (OldPromised _ _ _ c _) = is_sane_carried c
+is_sane_change (Promised _ number low _ c _) = is_sane_low low number && is_sane_carried c
 is_sane_change (StageGot _ _ path _) = is_path path
 is_sane_change _ = true
 
@@ -98,7 +103,8 @@ is_of_site hosts h = nat_lt h.0 hosts
 
 -- what a message brings is within its limits, in a site of so many hosts
 abbrev pub is_sane_body : ℕ → Body → Bool
-is_sane_body hosts (body.Offer n _ c script) = nat_le 1 n && is_sane_carried c && is_of_site hosts c.id.host && is_short_script script
+is_sane_body hosts (body.Offer n low _ c script) =
+    nat_le 1 n && is_sane_low low n && is_sane_carried c && is_of_site hosts c.id.host && is_short_script script
 is_sane_body hosts (body.Refused n refusal) = nat_le 1 n && is_offer_refusal refusal
 is_sane_body hosts (body.Stage n path bytes) = nat_le 1 n && is_path path && is_short_script bytes
 is_sane_body hosts _ = true

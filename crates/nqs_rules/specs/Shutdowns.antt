@@ -1,5 +1,5 @@
 -- When a host halts, told without its steps.
-use Rattle.std.specs.Prelude.{ℕ, Bool, true, false, ◌&&◌, is_ok}
+use Rattle.std.specs.Prelude.{Bool, true, false, ◌&&◌, is_ok}
 use Rattle.nqs_state.specs.State.{Plain}
 use Rattle.nqs_rules.specs.Access.{rank, may_command}
 use Rattle.nqs_types.specs.declared.event.Command.{Command}

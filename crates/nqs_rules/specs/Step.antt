@@ -174,7 +174,7 @@ module _ {E : Type 0} where
 
   -- datagrams; one of a client is none of these
   abbrev pub on_message : HostId → Body → State E → Stepped E
-  on_message peer (body.Offer n queue c script) s = on_offer peer n queue c script s
+  on_message peer (body.Offer n low queue c script) s = on_offer peer n low queue c script s
   on_message peer (body.Ready n) s = on_ready peer n s
   on_message peer (body.Refused n refusal) s = on_refused peer n refusal s
   on_message peer (body.Commit n) s = on_commit peer n s

@@ -8,7 +8,8 @@ use Rattle.nqs_types.specs.declared.message.Body.TheVariants as body
 use Rattle.nqs_types.specs.declared.change.OutPart.{OutPart}
 use Rattle.nqs_types.specs.declared.change.Change.{Change}
 use Rattle.nqs_types.specs.declared.change.Change.TheVariants.{Site, Submitted, Deleted, Doomed, Started, Ended, Unlaunched, Boot, Edited, HandOpened}
-use Rattle.nqs_types.specs.declared.change.Change.TheVariants.{HandCommitted, HandRefused, HandsSilent, HandDone, Promised, Accepted, Dropped, MovedLocal}
+use Rattle.nqs_types.specs.declared.change.Change.TheVariants.{HandCommitted, HandRefused, HandsSilent, HandDone, OldPromised, Promised, Accepted, Dropped}
+use Rattle.nqs_types.specs.declared.change.Change.TheVariants.{MovedLocal}
 use Rattle.nqs_types.specs.declared.change.Change.TheVariants.{RefusedLocal, HeldFar, StageGot, StageGone, FileGone}
 use Rattle.nqs_types.specs.declared.event.Reply.{Reply}
 use Rattle.nqs_types.specs.declared.event.Output.{Output}
@@ -36,7 +37,8 @@ map_change f (HandCommitted peer number) = HandCommitted peer number
 map_change f (HandRefused peer number refusal) = HandRefused peer number refusal
 map_change f (HandsSilent until hands) = HandsSilent until hands
 map_change f (HandDone peer number) = HandDone peer number
-map_change f (Promised peer number queue c script) = Promised peer number queue c (f script)
+map_change f (OldPromised peer number queue c script) = OldPromised peer number queue c (f script)
+map_change f (Promised peer number low queue c script) = Promised peer number low queue c (f script)
 map_change f (Accepted peer number) = Accepted peer number
 map_change f (Dropped peer number) = Dropped peer number
 map_change f (MovedLocal id queue) = MovedLocal id queue
@@ -54,7 +56,8 @@ part_bytes part = part.bytes
 abbrev pub stored_parts : {E : Type 0} → Change E → List E
 stored_parts (Submitted queue job script) = script ∷ []
 stored_parts (Ended id parts) = map part_bytes parts
-stored_parts (Promised peer number queue c script) = script ∷ []
+stored_parts (OldPromised peer number queue c script) = script ∷ []
+stored_parts (Promised peer number low queue c script) = script ∷ []
 stored_parts (StageGot peer number path bytes) = bytes ∷ []
 stored_parts _ = []
 
@@ -64,7 +67,7 @@ Pending E = Output × Option E
 
 -- a message with the bytes that it sends
 abbrev pub sent_with : List ℕ → Body → Body
-sent_with bytes (body.Offer number queue c _) = body.Offer number queue c bytes
+sent_with bytes (body.Offer number low queue c _) = body.Offer number low queue c bytes
 sent_with bytes (body.Stage number path _) = body.Stage number path bytes
 sent_with bytes b = b
 

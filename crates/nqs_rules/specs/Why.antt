@@ -20,7 +20,7 @@ use Rattle.nqs_types.specs.declared.reason.Reason.{Reason}
 use Rattle.nqs_types.specs.declared.reason.Reason.TheVariants.{Runs, OnItsWay, HeldByUser, HeldBySystem, NotBefore, NoQueue, QueueStopped, UserLimit}
 use Rattle.nqs_types.specs.declared.reason.Reason.TheVariants.{RunLimit, ComplexLimit, GlobalLimit, NoDevice, NoDestination, Next}
 use Rattle.nqs_types.specs.declared.reason.DestAnswer.{DestAnswer}
-use Rattle.nqs_types.specs.declared.reason.DestAnswer.TheVariants.{Refused, NoHost, NoNumberLeft, HandingOver, WaitedFor, MayBeTried}
+use Rattle.nqs_types.specs.declared.reason.DestAnswer.TheVariants.{Refused, NoHost, NoNumberLeft, HandingOver, NotSettled, WaitedFor, MayBeTried}
 
 -- a moment as its date, and past the last day that has one as its seconds since 1970
 abbrev pub when_text : ℕ → Text
@@ -63,7 +63,8 @@ abbrev pub answer_text : DestAnswer → Text
 answer_text (Refused number) = codes "refused with number " ++ decimal number
 answer_text NoHost = codes "no such host"
 answer_text NoNumberLeft = codes "all numbers are used"
-answer_text HandingOver = codes "its host is being handed another request"
+answer_text HandingOver = codes "its host is being handed eight requests"
+answer_text (NotSettled number) = codes "its host has not settled handover " ++ decimal number
 answer_text (WaitedFor moment) = codes "its host is waited for until " ++ when_text moment
 answer_text MayBeTried = codes "may be tried"
 

@@ -1,6 +1,6 @@
 -- A network of hosts as a pure machine of events. There is no byte of a disk in it: a stop is told
 -- by the count of device calls.
-use Rattle.std.specs.Prelude.{ℕ, zero, suc, ◌+◌, ◌-◌, ◌%◌, Bool, true, false, not, ◌&&◌, ◌||◌, ◌==◌, nat_le, nat_lt, max, if◌then◌else◌, List, [], ◌∷◌, ◌++◌}
+use Rattle.std.specs.Prelude.{ℕ, zero, suc, ◌+◌, ◌-◌, ◌%◌, Bool, true, false, not, ◌&&◌, ◌||◌, ◌==◌, nat_le, max, if◌then◌else◌, List, [], ◌∷◌, ◌++◌}
 use Rattle.std.specs.Prelude.{map}
 use Rattle.std.specs.Prelude.{filter, length, slice_get, Option, None, Some}
 use Rattle.std.specs.List.{filter_map}
@@ -291,7 +291,7 @@ used puts s h = let w = wrote puts (ready h) in record w { up = true; state = s;
 
 -- the kind of a message
 abbrev pub body_kind : Body → BodyKind
-body_kind (body.Offer _ _ _ _) = kind.Offer
+body_kind (body.Offer _ _ _ _ _) = kind.Offer
 body_kind (body.Ready _) = kind.Ready
 body_kind (body.Refused _ _) = kind.Refused
 body_kind (body.Commit _) = kind.Commit
@@ -307,7 +307,7 @@ body_kind (body.EndedAck _ _) = kind.EndedAck
 
 -- the number of a datagram among hosts, and 0 for one of a client
 abbrev pub body_number : Body → ℕ
-body_number (body.Offer n _ _ _) = n
+body_number (body.Offer n _ _ _ _) = n
 body_number (body.Ready n) = n
 body_number (body.Refused n _) = n
 body_number (body.Commit n) = n

@@ -3,6 +3,7 @@
 //! `docs/rules.md` says them in words, table by table.
 #![tactic(auto)]
 
+pub mod handover_laws;
 pub mod laws;
 pub mod order_laws;
 pub mod start_laws;

@@ -61,6 +61,11 @@ fn remove(to: Name, host: Name, queue: Name) -> ConfEdit {
     ConfEdit::RemoveDestination { destination, queue }
 }
 
+fn first(to: Name, host: Name, queue: Name) -> ConfEdit {
+    let destination = NamedDest { queue: to, host };
+    ConfEdit::FirstDestination { destination, queue }
+}
+
 fn delete(queue: Name) -> ConfEdit {
     ConfEdit::DeleteQueue { queue }
 }
@@ -126,6 +131,11 @@ fn refused_edits(rt: HostRuntime) -> Result<(), Fail> {
         (remove(used, h9, used), Err(Refusal::WrongKind)),
         (remove(used, h2, road), Err(Refusal::NoDest)),
         (remove(used, h1, road), Ok(())),
+        (first(used, h1, long), Err(Refusal::NoQueue(long))),
+        (first(used, h1, used), Err(Refusal::WrongKind)),
+        (first(used, h2, road), Err(Refusal::NoDest)),
+        (first(used, h9, road), Err(Refusal::NoDest)),
+        (first(used, h1, road), Ok(())),
     ];
     let alloc = rt.alloc();
     let mut state = host(alloc);

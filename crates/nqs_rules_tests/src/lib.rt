@@ -14,6 +14,8 @@ mod limits;
 #[cfg(test)]
 mod order;
 #[cfg(test)]
+mod routing;
+#[cfg(test)]
 mod rows;
 #[cfg(test)]
 mod types;

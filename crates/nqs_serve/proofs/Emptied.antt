@@ -7,7 +7,7 @@ use Rattle.nqs_types.specs.declared.request.Row.{Row}
 use Rattle.nqs_types.specs.declared.request.Promise.{Promise}
 use Rattle.nqs_types.specs.declared.request.Hand.{Hand}
 use Rattle.nqs_state.specs.State.{State}
-use Rattle.nqs_rules.specs.Tests.{passes, same_host, is_offered}
+use Rattle.nqs_rules.specs.Tests.{passes, is_offered}
 use Rattle.nqs_rules.specs.Find.{find_row}
 use Rattle.nqs_rules.specs.Plain.{map_row, map_promise, map_stage, map_file, map_state}
 use Rattle.nqs_rules.specs.InOrder.{IsInOrder, are_distinct, same_number, is_device_there, is_default_there, arrivals_of, is_row_right, is_promise_right}
@@ -99,7 +99,6 @@ module _ {E F : Type 0} (f : E → F) (s : State E) (h : IsInOrder s) where
     complexes = h.complexes;
     rows = all-mapped (is_row_right s) (is_row_right t) (map_row f) row_stays s.rows h.rows;
     promises = all-mapped (is_promise_right s) (is_promise_right t) (map_promise f) promise_stays s.promises h.promises;
-    promisers = ap (are_distinct same_host) (map-map (λ p. p.peer) (map_promise f) s.promises) ∙ h.promisers;
     hands = list_all-weaker (is_hand_right s) (is_hand_right t) hand_stays s.hands h.hands;
     few = h.few;
     offers = h.offers;

@@ -47,7 +47,8 @@ module _ {D : Type 0} {g : disk.Ghosts D} where
   pub kept_none : (node : Node D g) (s : Plain) → Knows node s → Keeps node node s []
   kept_none node s knows = (kept_still node node s knows (λ which. refl), refl)
 
-  pub kept_then : (a b c : Node D g) (s : Plain) (xs ys : List (Stepped (List ℕ))) (failed : Kept) → Keeps a b s xs → KeepsTill b c (after_starts xs s) ys failed
+  pub kept_then : (a b c : Node D g) (s : Plain) (xs ys : List (Stepped (List ℕ))) (failed : Kept) → Keeps a b s xs
+      → KeepsTill b c (after_starts xs s) ys failed
       → KeepsTill a c s (xs ++ ys) failed
   kept_then a b c s xs ys failed one two =
       then_kept (active_of a) (active_of b) (history_of a) (history_of b) (history_of c) s xs ys failed one.0 one.1 two
@@ -111,4 +112,5 @@ module _ {D : Type 0} {g : disk.Ghosts D} where
   pub behind_both : (a c : Node D g) (s : Plain) (all xs ys done : List (Stepped (List ℕ))) (failed : Kept) → all ≡ xs ++ ys
       → KeepsTill a c s (xs ++ (ys ++ done)) failed → KeepsTill a c s (all ++ done) failed
   behind_both a c s all xs ys done failed is kept =
-      subst (λ (l : List (Stepped (List ℕ))). KeepsTill a c s l failed) (sym (ap (λ (l : List (Stepped (List ℕ))). l ++ done) is ∙ append_assoc xs ys done)) kept
+      subst (λ (l : List (Stepped (List ℕ))). KeepsTill a c s l failed) (sym
+      (ap (λ (l : List (Stepped (List ℕ))). l ++ done) is ∙ append_assoc xs ys done)) kept

@@ -83,7 +83,8 @@ module _ {D : Type 0} {g : disk.Ghosts D} (here : Here) (old now : Node D g) (s 
   -- what the disks kept of a run, and of the first calls of an event that was cut off
   run_tells : (t : Turn) (more : List ℕ) (done left : List (Stepped (List ℕ))) (failed : Kept) → after here (idle s) acts ≡ t
       → Tail here t more (done ++ left)
-      → ((P : Plain → Type 0) → ((fs bs : List (Stepped (List ℕ))) → left ≡ fs ++ bs → P (after_starts fs (after_starts (run_calls here (idle s) acts ++ done) s)))
+      → ((P : Plain → Type 0) → ((fs bs : List (Stepped (List ℕ))) → left ≡ fs ++ bs
+      → P (after_starts fs (after_starts (run_calls here (idle s) acts ++ done) s)))
       → P (after_change failed (after_starts (run_calls here (idle s) acts ++ done) s)))
       → KeepsTill old now s (run_calls here (idle s) acts ++ done) failed
       → TellsThroughout (active_of old) (history_of old) (history_of now) (IsPassed here (idle s) acts more)

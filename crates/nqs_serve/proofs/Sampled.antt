@@ -1,5 +1,5 @@
 -- The datagram by hand, computed.
-use Rattle.std.proofs.Common.{◌≡◌, ℕ, [], ◌∷◌, Ok, refl, ap}
+use Rattle.std.proofs.Common.{◌≡◌, ℕ, [], ◌∷◌, Ok, Err, refl, ap}
 use Rattle.nqs_types.specs.declared.event.Event.TheVariants.{Arrived}
 use Rattle.nqs_types.specs.declared.message.Body.TheVariants.{Done}
 use Rattle.nqs_types.specs.declared.message.Message.{Message}
@@ -8,9 +8,9 @@ use Rattle.nqs_records.specs.Parts.{host_at}
 use Rattle.nqs_packets.specs.Parts.{number_at as handover_at}
 use Rattle.nqs_packets.specs.Bodies.{bodies, done_at}
 use Rattle.nqs_packets.specs.Reading.{kind_at, message_at, rest_of, message_of}
-use Rattle.nqs_packets.specs.declared.fault.PacketFault.TheVariants.{Short}
+use Rattle.nqs_packets.specs.declared.fault.PacketFault.TheVariants.{Short, Version}
 use Rattle.nqs_packets.proofs.FirstFaults.{one_byte}
-use Rattle.nqs_serve.specs.Samples.{done_from, one_of_two}
+use Rattle.nqs_serve.specs.Samples.{done_by, done_from, one_of_two}
 use Rattle.nqs_serve.specs.Sorted.{read_sorted, sorted}
 use Rattle.nqs_serve.specs.declared.sort.IgnoreCause.TheVariants.{Unread, NotHere, Stranger}
 use Rattle.nqs_serve.specs.declared.sort.Sorted.TheVariants.{Event, Ignored}
@@ -27,6 +27,10 @@ reads_five : message_of (done_from 5) ≡ Ok (said_by 5)
 unfolding message_of rest_of message_at kind_at host_at bodies done_at handover_at u64_at u8_at number_at
 reads_five = refl
 
+reads_older : message_of (done_by 1 1) ≡ Err Version
+unfolding message_of u8_at number_at
+reads_older = refl
+
 pub is_event : (now : ℕ) → sorted (one_of_two 0) now (done_from 1) ≡ Event (Arrived now (said_by 1))
 is_event now = ap (read_sorted (one_of_two 0) now) reads_one
 
@@ -36,5 +40,8 @@ is_elsewhere now = ap (read_sorted (one_of_two 1) now) reads_one
 pub is_stranger : (now : ℕ) → sorted (one_of_two 0) now (done_from 5) ≡ Ignored Stranger
 is_stranger now = ap (read_sorted (one_of_two 0) now) reads_five
 
-pub is_cut : (now : ℕ) → sorted (one_of_two 0) now (1 ∷ []) ≡ Ignored (Unread (Short 1))
+pub is_cut : (now : ℕ) → sorted (one_of_two 0) now (2 ∷ []) ≡ Ignored (Unread (Short 1))
 is_cut now = ap (read_sorted (one_of_two 0) now) one_byte
+
+pub is_older : (now : ℕ) → sorted (one_of_two 0) now (done_by 1 1) ≡ Ignored (Unread Version)
+is_older now = ap (read_sorted (one_of_two 0) now) reads_older

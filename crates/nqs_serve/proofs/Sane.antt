@@ -80,12 +80,12 @@ is_back (comeback.Unwritten file) = refl
 
 -- where all its requests are of the site, the one that it offers is
 offers_here : (hosts : ℕ) (b : Body) → are_of_site hosts b ≡ true → offers_of_site hosts b ≡ true
-offers_here hosts (Offer n q c s) of_site = of_site
+offers_here hosts (Offer n low q c s) of_site = of_site
 offers_here hosts _ of_site = refl
 
 right_by : (hosts : ℕ) (m : Message) (b : Body) → IsBody b → has_number b ≡ has_number m.body → is_of_site hosts m.from ≡ true → are_of_site hosts b ≡ true
     → IfSome (event_by m b) (λ e. IsTrue (is_right_event hosts e))
-right_by hosts m (Offer n q c s) ok same from of_site = and_from _ _ from (sym same ∙ ok.0.0)
+right_by hosts m (Offer n low q c s) ok same from of_site = and_from _ _ from (sym same ∙ ok.0.0)
 right_by hosts m (Ready n) ok same from of_site = and_from _ _ from (sym same ∙ ok.0)
 right_by hosts m (Refused n cause) ok same from of_site = and_from _ _ from (sym same ∙ ok.0.0)
 right_by hosts m (Commit n) ok same from of_site = and_from _ _ from (sym same ∙ ok.0)
@@ -119,7 +119,7 @@ module _ (submissions : SubmissionsAreSane) (edits : EditsAreSane) (lists : List
   sane_by hosts m (Ended port id start status output error) ok sane = and_from _ _ ok.4.0 ok.5.0
   sane_by hosts m (Answer token good text) ok sane = tt
   sane_by hosts m (EndedAck id start) ok sane = tt
-  sane_by hosts m (Offer n q c s) ok sane = sane
+  sane_by hosts m (Offer n low q c s) ok sane = sane
   sane_by hosts m (Ready n) ok sane = sane
   sane_by hosts m (Refused n cause) ok sane = sane
   sane_by hosts m (Commit n) ok sane = sane

@@ -22,7 +22,8 @@ use Rattle.nqs_state.specs.State.{State, Plain}
 use Rattle.nqs_rules.specs.Fits.{fits}
 use Rattle.nqs_rules.specs.InOrder.{IsInOrder}
 use Rattle.nqs_rules.specs.Plain.{map_row, map_promise, map_stage, map_file}
-use Rattle.nqs_rules.specs.Sane.{is_of_site, is_short_script, is_sane_id, is_sane_carried, is_sane_body, is_sane_message, is_sane_event, is_sane_change}
+use Rattle.nqs_rules.specs.Sane.{is_of_site, is_short_script, is_sane_id, is_sane_carried, is_sane_low, is_sane_body, is_sane_message, is_sane_event}
+use Rattle.nqs_rules.specs.Sane.{is_sane_change}
 use Rattle.nqs_rules.specs.Start.{start}
 use Rattle.nqs_rules.specs.Step.{step}
 use Rattle.nqs_rules.specs.Stepped.{Stepped, quiet, shown, sent_with}
@@ -61,7 +62,7 @@ any c = true
 
 module _ (hosts : ℕ) where
   number_bare : (b : Body) → has_number (sent_with [] b) ≡ has_number b
-  number_bare (Offer n queue c script) = refl
+  number_bare (Offer n low queue c script) = refl
   number_bare (Stage n path bytes) = refl
   number_bare b = refl
 
@@ -90,12 +91,12 @@ module _ (hosts : ℕ) where
       (all_bare went ∙ b)
 
   sane_bare : (b : Body) → is_sane_body hosts b ≡ true → is_sane_body hosts (sent_with [] b) ≡ true
-  sane_bare (Offer n queue c script) k = and_from _ true (and_parts _ (is_short_script script) k).0 refl
+  sane_bare (Offer n low queue c script) k = and_from _ true (and_parts _ (is_short_script script) k).0 refl
   sane_bare (Stage n path bytes) k = and_from _ true (and_parts _ (is_short_script bytes) k).0 refl
   sane_bare b k = k
 
   carried : (b : Body) → is_sane_body hosts b ≡ true → carries_short b ≡ true
-  carried (Offer n queue c script) k = (and_parts _ (is_short_script script) k).1
+  carried (Offer n low queue c script) k = (and_parts _ (is_short_script script) k).1
   carried (Stage n path bytes) k = (and_parts _ (is_short_script bytes) k).1
   carried b k = refl
 
@@ -144,9 +145,9 @@ module _ (hosts : ℕ) (few : hosts ≤ 16) where
   host_wider h k = lt-ltb h.0 16 (omega (arith, few, ltb-true h.0 hosts k))
 
   body_wider : (b : Body) → is_sane_body hosts b ≡ true → is_sane_body 16 b ≡ true
-  body_wider (Offer n queue c script) k =
+  body_wider (Offer n low queue c script) k =
       let a = and_parts _ (is_short_script script) k in
-      let d = and_parts (nat_le 1 n && is_sane_carried c) (is_of_site hosts c.id.host) a.0 in
+      let d = and_parts (nat_le 1 n && is_sane_low low n && is_sane_carried c) (is_of_site hosts c.id.host) a.0 in
       and_from _ _ (and_from _ _ d.0 (host_wider c.id.host d.1)) a.1
   body_wider (Refused n refusal) k = k
   body_wider (Stage n path bytes) k = k
@@ -240,7 +241,7 @@ module _ (host : State Extent) (order : IsInOrder host) where
 -- a right message may be sent where it carries nothing too long
 
 with_what_it_carries : (n : ℕ) (b : Body) → is_sane_body n (sent_with [] b) ≡ true → carries_short b ≡ true → is_sane_body n b ≡ true
-with_what_it_carries _ (Offer n queue c script) k is_short = and_from _ _ (and_parts _ true k).0 is_short
+with_what_it_carries _ (Offer n low queue c script) k is_short = and_from _ _ (and_parts _ true k).0 is_short
 with_what_it_carries _ (Stage n path bytes) k is_short = and_from _ _ (and_parts _ true k).0 is_short
 with_what_it_carries _ b k is_short = k
 

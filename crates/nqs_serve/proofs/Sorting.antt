@@ -24,7 +24,7 @@ use Rattle.nqs_serve.specs.declared.sort.Sorted.TheVariants.{Event, Ignored}
 -- an event that waits has the moment 0
 
 by_at_zero : (m : Message) (b : Body) → option_map (at_moment 0) (event_by m b) ≡ event_by m b
-by_at_zero m (Offer n q c s) = refl
+by_at_zero m (Offer n low q c s) = refl
 by_at_zero m (Ready n) = refl
 by_at_zero m (Refused n cause) = refl
 by_at_zero m (Commit n) = refl
@@ -86,7 +86,7 @@ events_are_taken here now bytes = by (is_whole bytes)
 -- there is an event of what isn't said back, and of nothing else
 
 none_said : (m : Message) (b : Body) → event_by m b ≡ None → is_said_back b ≡ true
-none_said m (Offer n q c s) none = cc
+none_said m (Offer n low q c s) none = cc
 none_said m (Ready n) none = cc
 none_said m (Refused n cause) none = cc
 none_said m (Commit n) none = cc
@@ -101,7 +101,7 @@ none_said m (Ended port id start status output error) none = cc
 none_said m (EndedAck id start) none = refl
 
 said_none : (m : Message) (b : Body) → is_said_back b ≡ true → event_by m b ≡ None
-said_none m (Offer n q c s) said = cc
+said_none m (Offer n low q c s) said = cc
 said_none m (Ready n) said = cc
 said_none m (Refused n cause) said = cc
 said_none m (Commit n) said = cc

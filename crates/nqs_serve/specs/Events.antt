@@ -43,7 +43,7 @@ command_of user Tick words script = command.Tick
 
 -- the hosts of its requests are of the site
 abbrev pub are_of_site : ℕ → Body → Bool
-are_of_site hosts (body.Offer _ _ c _) = is_of_site hosts c.id.host
+are_of_site hosts (body.Offer _ _ _ c _) = is_of_site hosts c.id.host
 are_of_site hosts (body.Ended _ id _ _ _ _) = is_of_site hosts id.host
 are_of_site hosts (body.EndedAck id _) = is_of_site hosts id.host
 are_of_site hosts _ = true

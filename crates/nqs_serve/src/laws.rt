@@ -3,10 +3,10 @@
 ghost use Rattle.std.specs.Prelude.{◌≡◌, ℕ, [], ◌∷◌};
 ghost use Rattle.nqs_types.specs.declared.event.Event.TheVariants.{Arrived};
 ghost use Rattle.nqs_types.specs.declared.message.Body.TheVariants.{Done};
-ghost use Rattle.nqs_packets.specs.declared.fault.PacketFault.TheVariants.{Short};
+ghost use Rattle.nqs_packets.specs.declared.fault.PacketFault.TheVariants.{Short, Version};
 ghost use Rattle.nqs_serve.specs.Runs.{RunsAreFolds};
 ghost use Rattle.nqs_serve.specs.Sorted.{sorted, SortedOneWay, EventsAreTaken};
-ghost use Rattle.nqs_serve.specs.Samples.{done_from, one_of_two};
+ghost use Rattle.nqs_serve.specs.Samples.{done_by, done_from, one_of_two};
 ghost use Rattle.nqs_serve.specs.declared.sort.IgnoreCause.TheVariants.{Unread, NotHere, Stranger};
 ghost use Rattle.nqs_serve.specs.declared.sort.Sorted.TheVariants.{Event, Ignored};
 
@@ -28,11 +28,13 @@ pub fn sorted_events_are_taken()
 {}
 
 /// DONE of handover 1 from host 1 to host 0, of two: an event there and nowhere else. From a host
-/// that the site doesn't have it is a stranger's; its first byte alone is short.
+/// that the site doesn't have it is a stranger's; its first byte alone is short. That of an older
+/// host, in version 1, is none.
 pub fn a_datagram_by_hand()
     ensures event { (now : ℕ) → sorted (one_of_two 0) now (done_from 1)
         ≡ Event (Arrived now (record { from = record { 0 = 1 }; to = record { 0 = 0 }; body = Done 1 })) }
     ensures elsewhere { (now : ℕ) → sorted (one_of_two 1) now (done_from 1) ≡ Ignored NotHere }
     ensures stranger { (now : ℕ) → sorted (one_of_two 0) now (done_from 5) ≡ Ignored Stranger }
-    ensures cut { (now : ℕ) → sorted (one_of_two 0) now (1 ∷ []) ≡ Ignored (Unread (Short 1)) }
+    ensures cut { (now : ℕ) → sorted (one_of_two 0) now (2 ∷ []) ≡ Ignored (Unread (Short 1)) }
+    ensures older { (now : ℕ) → sorted (one_of_two 0) now (done_by 1 1) ≡ Ignored (Unread Version) }
 {}

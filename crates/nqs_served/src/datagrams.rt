@@ -48,7 +48,7 @@ fn put_words(words: Words<'_>, out: &mut Vec<u8>) -> Result<(), Trouble> {
 
 /// What a user asks the host for, with a token.
 pub(crate) fn put_ask(ask: Ask<'_>, token: u64, out: &mut Vec<u8>) -> Result<(), Trouble> {
-    put(&[1, 10, 0, 0, 0, 9], out)?;
+    put(&[2, 10, 0, 0, 0, 9], out)?;
     put(&token.to_be_bytes(), out)?;
     put_name(ask.user, out)?;
     put(&[ask.tool], out)?;
@@ -58,7 +58,7 @@ pub(crate) fn put_ask(ask: Ask<'_>, token: u64, out: &mut Vec<u8>) -> Result<(),
 
 /// What a shepherd tells the host of the end of a job.
 pub(crate) fn put_ended(ended: Ended<'_>, out: &mut Vec<u8>) -> Result<(), Trouble> {
-    put(&[1, 12, 0, 0, 0, 10], out)?;
+    put(&[2, 12, 0, 0, 0, 10], out)?;
     put(&ended.id.seq.to_be_bytes(), out)?;
     put(&[ended.id.host.0], out)?;
     put(&ended.start.to_be_bytes(), out)?;
@@ -70,7 +70,7 @@ pub(crate) fn put_ended(ended: Ended<'_>, out: &mut Vec<u8>) -> Result<(), Troub
 /// The text of an answer with this token, if it is spelled as it is to be. Its flag tells refusals
 /// and faults.
 pub(crate) fn text_of(datagram: &[u8], token: u64) -> Option<&[u8]> {
-    let rest = datagram.strip_prefix([1, 11, 0, 0].as_slice())?;
+    let rest = datagram.strip_prefix([2, 11, 0, 0].as_slice())?;
     let rest = rest.strip_prefix(token.to_be_bytes().as_slice())?;
     if rest.len() < 5 {
         return None;

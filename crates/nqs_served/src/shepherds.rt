@@ -20,9 +20,9 @@ fn beta() -> Name {
 
 // The acknowledgement of the first start of the request 7 of host 1, and that of a request 7 of
 // host 0.
-const ACK: &[u8] = &[1, 13, 0, 0, 0, 0, 0, 7, 1, 0, 1];
+const ACK: &[u8] = &[2, 13, 0, 0, 0, 0, 0, 7, 1, 0, 1];
 
-const OTHER_ACK: &[u8] = &[1, 13, 0, 0, 0, 0, 0, 7, 0, 0, 1];
+const OTHER_ACK: &[u8] = &[2, 13, 0, 0, 0, 0, 0, 7, 0, 0, 1];
 
 // What comes where nothing does.
 const QUIET: &[u8] = &[];
@@ -152,13 +152,13 @@ pub(crate) fn put_shepherds(alloc: Global, out: &mut Vec<u8>) -> Result<(), Trou
 // The answer of host 0, one of host 1 with another token, and that of host 1.
 static ANSWERS: [&[u8]; 3] = [
     &[
-        1, 11, 0, 0, 0, 0, 0, 0, 0, 0, 0, 5, 1, 0, 0, 0, 3, b'n', b'o', 10,
+        2, 11, 0, 0, 0, 0, 0, 0, 0, 0, 0, 5, 1, 0, 0, 0, 3, b'n', b'o', 10,
     ],
     &[
-        1, 11, 1, 1, 0, 0, 0, 0, 0, 0, 0, 4, 1, 0, 0, 0, 3, b'n', b'o', 10,
+        2, 11, 1, 1, 0, 0, 0, 0, 0, 0, 0, 4, 1, 0, 0, 0, 3, b'n', b'o', 10,
     ],
     &[
-        1, 11, 1, 1, 0, 0, 0, 0, 0, 0, 0, 5, 1, 0, 0, 0, 3, b'o', b'k', 10,
+        2, 11, 1, 1, 0, 0, 0, 0, 0, 0, 0, 5, 1, 0, 0, 0, 3, b'o', b'k', 10,
     ],
 ];
 

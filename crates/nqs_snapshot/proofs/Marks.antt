@@ -1,13 +1,8 @@
 -- Marks that are added one by one.
 use Rattle.std.proofs.Common.{◌≡◌, ℕ, ◌+◌, Bool, true, false, cond, List, [], ◌∷◌, ◌++◌, map, filter, drop, slice_get, Some, refl, sym, ap, ◌∙◌, append_assoc}
-use Rattle.std.proofs.Common.{not, ◌&&◌, ◌||◌, Ok, Err, IfOk}
+use Rattle.std.proofs.Common.{Ok, Err, IfOk}
 use Rattle.std.specs.declared.result.Result.{Result}
 use Rattle.std.proofs.lemmas.List.{map-append}
-use Rattle.std.specs.List.{list_any}
-use Rattle.nqs_types.specs.declared.ids.HostId.{HostId}
-use Rattle.nqs_types.specs.declared.request.Promise.{Promise}
-use Rattle.nqs_rules.specs.Tests.{same_host}
-use Rattle.nqs_rules.specs.InOrder.{are_distinct, same_number}
 use Rattle.nqs_base_tables.proofs.TableLemmas.{drop-at}
 
 -- the mark of the value at the place goes behind those before
@@ -38,16 +33,6 @@ one_if key of t marks next items i v at added =
     ∙ ap (λ l. map key marks ++ l) (map-append of (filter t (v ∷ [])) rest)
     ∙ sym (append_assoc (map key marks) (map of (filter t (v ∷ []))) (map of rest))
     ∙ ap (λ l. l ++ map of rest) (sym added)
-
-any_number : {E : Type 0} (host : HostId) (ps : List (Promise E)) → list_any (same_number host.0) (map (λ p. p.peer.0) ps)
-    ≡ list_any (same_host host) (map (λ p. p.peer) ps)
-any_number host [] = refl
-any_number host (p ∷ ps) = ap (λ b. same_host host p.peer || b) (any_number host ps)
-
--- hosts are distinct where their numbers are
-pub by_number : {E : Type 0} (ps : List (Promise E)) → are_distinct same_number (map (λ p. p.peer.0) ps) ≡ are_distinct same_host (map (λ p. p.peer) ps)
-by_number [] = refl
-by_number (p ∷ ps) = (λ j. not (any_number p.peer ps j) && by_number ps j)
 
 -- an answer that is one value is the other, where they are one
 pub same_answer : {E : Type 0} (answer : Result Bool E) (a b : Bool) → a ≡ b → IfOk answer (λ x. x ≡ a) → IfOk answer (λ x. x ≡ b)

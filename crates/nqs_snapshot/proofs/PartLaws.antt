@@ -1,5 +1,5 @@
 -- The laws of the values of a snapshot: what is read stands there, and what stands there is read.
-use Rattle.std.proofs.Common.{◌≡◌, ℕ, zero, suc, ◌<◌, ◌^◌, IsTrue, List, Option, Some, None, refl, arith}
+use Rattle.std.proofs.Common.{◌≡◌, ℕ, zero, suc, ◌+◌, ◌<◌, ◌^◌, IsTrue, List, ◌++◌, length, Option, Some, None, refl, sym, ap, ◌∙◌, subst, Ok, arith}
 use Rattle.std.specs.Prelude.{⊤, [], ◌∷◌}
 use Rattle.std.proofs.lemmas.Bool.Decides.{nat_tests}
 use Rattle.nqs_base.specs.Name.{IsName}
@@ -17,25 +17,28 @@ use Rattle.nqs_types.specs.declared.queue.Access.{Access}
 use Rattle.nqs_types.specs.declared.queue.Access.TheVariants.{All, Users}
 use Rattle.nqs_types.specs.declared.queue.QueueDef.{QueueDef}
 use Rattle.nqs_codec.specs.Fields.{u8_field, u16_field, u64_field, short_field, bool_field}
-use Rattle.nqs_records.specs.Reading.{Reading}
+use Rattle.nqs_base.proofs.Readings.{given, bound, bind}
+use Rattle.nqs_types.specs.declared.request.Peer.{Peer}
+use Rattle.nqs_codec.specs.Takes.{Stands}
+use Rattle.nqs_records.specs.Reading.{◌>>=◌, Reading, mapped}
 use Rattle.nqs_records.specs.Spelling.{fields, opt_field}
 use Rattle.nqs_records.specs.Values.{is_at_most, IsU16, IsU64, IsOpt}
 use Rattle.nqs_records.proofs.IsRead.{IsRead}
 use Rattle.nqs_records.proofs.Numbers.{u8_read, u16_read, u64_read}
 use Rattle.nqs_records.proofs.Named.{bool_read, name_read, path_read}
-use Rattle.nqs_records.proofs.Chains.{both_read, mapped_read, mapped_where, within_read, last_read, opt_read, counted_read}
+use Rattle.nqs_records.proofs.Chains.{Found, both_read, mapped_read, mapped_where, within_read, last_read, opt_read, counted_read}
 use Rattle.nqs_records.proofs.PartLaws.{host_law, id_law, extent_law, job_law, priority_fits, hops_fit, two_fit}
 use Rattle.nqs_snapshot.specs.declared.read_queues.Settings.{Settings}
 use Rattle.nqs_snapshot.specs.declared.read_requests.Course.{Course}
 use Rattle.nqs_snapshot.specs.Spelling.{many_field, kind_number, hold_number, state_number, phase_number, access_field, limits_field, dest_field}
 use Rattle.nqs_snapshot.specs.Spelling.{settings_field, queue_field, complex_field, device_field, refused_field, course_field, row_field, hand_field}
-use Rattle.nqs_snapshot.specs.Spelling.{promise_field, peer_field, stage_field, file_field}
+use Rattle.nqs_snapshot.specs.Spelling.{promise_field, peer_field, closed_up_to, old_peer_field, stage_field, file_field}
 use Rattle.nqs_snapshot.specs.Values.{IsMany, IsAccess, IsLimits, IsDest, AreSettings, IsQueue, IsComplex, IsDevice, IsRefused, IsRow, IsHand}
-use Rattle.nqs_snapshot.specs.Values.{IsPromise, IsPeer, IsStage, IsFile}
+use Rattle.nqs_snapshot.specs.Values.{IsPromise, IsPeer, floor_below, alone_above, IsOldPeer, IsStage, IsFile}
 use Rattle.nqs_snapshot.specs.Readings.{many_at, kind_of, hold_of, row_state_of, phase_of, kind_at, hold_at, row_state_at, phase_at, access_of, access_at}
 use Rattle.nqs_snapshot.specs.Readings.{limits_at, dest_at, settings_of, settings_at, queue_of, queue_at, complex_at, device_at, refused_at, course_of}
 use Rattle.nqs_snapshot.specs.Readings.{course_at}
-use Rattle.nqs_snapshot.specs.Readings.{row_of, row_at, hand_at, promise_at, peer_at, stage_at, file_at}
+use Rattle.nqs_snapshot.specs.Readings.{row_of, row_at, hand_at, promise_at, peer_at, OldPeerFields, renewed, old_peer_at, stage_at, file_at}
 
 pub many_law : {A : Type 0} {IsA : A → Type 0} {f : A → List ℕ} {r : Reading A} → IsRead IsA f r → IsRead (IsMany IsA) (many_field f) (many_at r)
 unfolding many_field
@@ -310,12 +313,64 @@ pub peer_law : IsRead IsPeer peer_field peer_at
 unfolding peer_at peer_field
 peer_law =
     mapped_read IsPeer peer_field
-    (λ v. record { next = v.0; closed = v.1.0; wait = v.1.1.0; stage_next = v.1.1.1.0; stage_got = v.1.1.1.1 })
-    (λ p. (p.next, (p.closed, (p.wait, (p.stage_next, p.stage_got)))))
+    (λ v. record { next = v.0; floor = v.1.0; closed = v.1.1.0; wait = v.1.1.1.0; stage_next = v.1.1.1.1.0; stage_got = v.1.1.1.1.1 })
+    (λ p. (p.next, (p.floor, (p.closed, (p.wait, (p.stage_next, p.stage_got))))))
     (λ p. refl)
-    (λ v is. (is.0, is.1.0, is.1.1.0, is.1.1.1.0, is.1.1.1.1))
-    (λ p is. (is.0, (is.1, (is.2, (is.3, is.4)))))
+    (λ v is. (is.0, is.1.0, is.1.1.0, is.1.1.1.0, is.1.1.1.1.0, is.1.1.1.1.1))
+    (λ p is. (is.0, (is.1, (is.2, (is.3, (is.4, is.5))))))
     (λ v. refl)
+    (both_read u64_read λ _ _. both_read u64_read λ _ _. both_read (many_law u64_read) λ _ _. both_read u64_read λ _ _. both_read u64_read λ _ _.
+    last_read u64_read)
+
+-- as mapped_read, where a value is made again of its parts if it may stand
+made_read : {A B : Type 0} {IsA : A → Type 0} {fa : A → List ℕ} {ra : Reading A} (IsB : B → Type 0) (fb : B → List ℕ) (make : A → B) (part : B → A)
+    → ((b : B) → IsB b → make (part b) ≡ b) → ((a : A) → IsA a → IsB (make a)) → ((b : B) → IsB b → IsA (part b)) → ((a : A) → fb (make a) ≡ fa a)
+    → IsRead IsA fa ra → IsRead IsB fb (mapped make ra)
+made_read {A} {B} {IsA} {fa} {ra} IsB fb make part again to from spelled one = record {
+  found = λ bytes place value next fits e.
+      let a = bound (ra bytes place) (λ a. Ok (make a.0, a.1)) (value, next) e in
+      let here = one.found bytes place a.0.0 a.0.1 fits a.1 in
+      subst (Found IsB fb bytes place) (sym (given (make a.0.0, a.0.1) (value, next) a.2))
+      (to a.0.0 here.0, subst (λ (l : List ℕ). Stands bytes place l a.0.1) (sym (spelled a.0.0)) here.1);
+  taken = λ bytes rest place value fits is_value is.
+      let whole = again value is_value in
+      let same : fb value ≡ fa (part value) = ap fb (sym whole) ∙ spelled (part value) in
+      let here = one.taken bytes rest place (part value) fits (from value is_value) (is ∙ ap (λ (l : List ℕ). l ++ rest) same) in
+      bind (ra bytes place) _ _ _ here (λ j. Ok (whole j, place + length (sym same j)));
+}
+
+closed_again : (n : ℕ) → closed_up_to (alone_above n) ≡ n
+closed_again zero = refl
+closed_again (suc n) = refl
+
+-- the numbers of an old peer
+abbrev old_fields : Peer → OldPeerFields
+old_fields p = (p.next, (closed_up_to p.closed, (p.wait, (p.stage_next, p.stage_got))))
+
+renewed_again : (p : Peer) → IsOldPeer p → renewed (old_fields p) ≡ p
+renewed_again p is =
+    λ j. record { next = p.next; floor = sym is.1.1 j; closed = sym is.1.2 j; wait = p.wait; stage_next = p.stage_next; stage_got = p.stage_got }
+
+-- the numbers have 64 bits each
+abbrev AreOldFields : OldPeerFields → Type 0
+AreOldFields v = IsU64 v.0 × (IsU64 v.1.0 × (IsU64 v.1.1.0 × (IsU64 v.1.1.1.0 × IsU64 v.1.1.1.1)))
+
+renewed_stands : (v : OldPeerFields) → AreOldFields v → IsOldPeer (renewed v)
+renewed_stands v is =
+    let again = sym (closed_again v.1.0) in (
+      is.0,
+      (subst IsU64 again is.1.0, ap floor_below again, ap alone_above again),
+      is.1.1.0,
+      is.1.1.1.0,
+      is.1.1.1.1,
+    )
+
+pub old_peer_law : IsRead IsOldPeer old_peer_field old_peer_at
+unfolding old_peer_at old_peer_field
+old_peer_law =
+    made_read IsOldPeer old_peer_field renewed old_fields renewed_again renewed_stands
+    (λ p is. (is.0, (is.1.0, (is.2, (is.3, is.4)))))
+    (λ v. ap (λ (n : ℕ). fields (u64_field v.0 ∷ u64_field n ∷ u64_field v.1.1.0 ∷ u64_field v.1.1.1.0 ∷ u64_field v.1.1.1.1 ∷ [])) (closed_again v.1.0))
     (both_read u64_read λ _ _. both_read u64_read λ _ _. both_read u64_read λ _ _. both_read u64_read λ _ _. last_read u64_read)
 
 pub stage_law : IsRead IsStage stage_field stage_at

@@ -49,7 +49,7 @@ module _ (s : State Extent) (h : MayStand s) where
   promises_stand = all_weaker IsPromise (λ (p : Promise Extent). IsTrue (is_sane_job p.row.job)) (λ p k. job_sane p.row.job k.2.1) s.promises h.1.2.1
 
   pub stages_stand : AllByRecursion (λ (t : Stage Extent). IsTrue (is_path t.path)) s.stages
-  stages_stand = all_weaker IsStage (λ (t : Stage Extent). IsTrue (is_path t.path)) (λ t k. path_sane t.path k.2) s.stages h.2.1.1
+  stages_stand = all_weaker IsStage (λ (t : Stage Extent). IsTrue (is_path t.path)) (λ t k. path_sane t.path k.2) s.stages h.3.0.1
 
   pub files_stand : AllByRecursion (λ (f : FileOut Extent). IsTrue (is_path f.path)) s.files
-  files_stand = all_weaker IsFile (λ (f : FileOut Extent). IsTrue (is_path f.path)) (λ f k. path_sane f.path k.1) s.files h.2.2.1
+  files_stand = all_weaker IsFile (λ (f : FileOut Extent). IsTrue (is_path f.path)) (λ f k. path_sane f.path k.1) s.files h.3.1.1

@@ -5,9 +5,8 @@ use Rattle.std.specs.List.{list_all}
 use Rattle.nqs_base.specs.declared.extent.Extent.{Extent}
 use Rattle.nqs_types.specs.Ids.{id_eq}
 use Rattle.nqs_state.specs.State.{State}
-use Rattle.nqs_rules.specs.Tests.{same_host}
 use Rattle.nqs_rules.specs.InOrder.{IsInOrder, IsConsistent, are_distinct, same_number, is_site_right, are_parameters_right, are_lists_short}
-use Rattle.nqs_rules.specs.InOrder.{are_keys_distinct, arrivals_of, is_queue_right, is_complex_right, is_row_right, is_promise_right, promisers}
+use Rattle.nqs_rules.specs.InOrder.{are_keys_distinct, arrivals_of, is_queue_right, is_complex_right, is_row_right, is_promise_right}
 use Rattle.nqs_rules.specs.InOrder.{is_hand_right, offered_ids, is_peer_right, is_stage_right, is_file_right}
 use Rattle.nqs_rules.specs.InOrder.{is_doom_right, is_hold_right, has_hand, is_promise_free, is_hand_of_given}
 use Rattle.nqs_rules.proofs.Chains.{each, chained}
@@ -32,8 +31,7 @@ order_of s keys h =
     let r = and_parts (are_hands_few s) (are_numbers_distinct s) q.1 in
     let b = each (is_site_right s) (are_parameters_right s ∷ are_lists_short s ∷ []) p.0 in
     let v = each (list_all (is_queue_right s) s.queues) (value_tests s) q.0 in
-    let n = and_parts (are_distinct same_number (arrivals_of s)) (are_distinct same_host (promisers s) && are_distinct id_eq (offered_ids s)) r.1 in
-    let m = and_parts (are_distinct same_host (promisers s)) (are_distinct id_eq (offered_ids s)) n.1 in
+    let n = and_parts (are_distinct same_number (arrivals_of s)) (are_distinct id_eq (offered_ids s)) r.1 in
     record {
       site = b.0;
       parameters = b.1.0;
@@ -44,10 +42,9 @@ order_of s keys h =
       complexes = v.1.0;
       rows = v.1.1.0;
       promises = v.1.1.1.0;
-      promisers = m.0;
       hands = v.1.1.1.1.0;
       few = r.0;
-      offers = m.1;
+      offers = n.1;
       peers = v.1.1.1.1.1.0;
       stages = v.1.1.1.1.1.1.0;
       files = v.1.1.1.1.1.1.1.0;
@@ -62,8 +59,7 @@ right_of s h =
     chained (list_all (is_queue_right s) s.queues) (value_tests s)
     (h.queues, (h.complexes, (h.rows, (h.promises, (h.hands, (h.peers, (h.stages, (h.files, tt)))))))) in
     let n : are_numbers_distinct s ≡ true =
-    and_from (are_distinct same_number (arrivals_of s)) (are_distinct same_host (promisers s) && are_distinct id_eq (offered_ids s)) h.arrivals
-    (and_from (are_distinct same_host (promisers s)) (are_distinct id_eq (offered_ids s)) h.promisers h.offers) in
+    and_from (are_distinct same_number (arrivals_of s)) (are_distinct id_eq (offered_ids s)) h.arrivals h.offers in
     and_from (are_bounds_right s) (are_values_right s && (are_hands_few s && are_numbers_distinct s)) b
     (and_from (are_values_right s) (are_hands_few s && are_numbers_distinct s) v (and_from (are_hands_few s) (are_numbers_distinct s) h.few n))
 

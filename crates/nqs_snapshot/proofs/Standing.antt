@@ -1,12 +1,12 @@
 -- The values of a state in order have fields, where its scripts and outputs are short.
-use Rattle.std.proofs.Common.{◌≡◌, ℕ, Bool, true, false, nat_lt, nat_le, List, [], ◌∷◌, length, arith}
+use Rattle.std.proofs.Common.{◌≡◌, ◌≢◌, refl, ℕ, zero, suc, Bool, true, false, nat_lt, nat_le, List, [], ◌∷◌, length, sym, subst, arith}
 use Rattle.std.specs.Prelude.{if◌then◌else◌}
 use Rattle.std.proofs.lemmas.Bool.{and_parts}
 use Rattle.std.proofs.lemmas.Bool.Decides.{nat_tests}
 use Rattle.std.specs.List.{list_all, AllByRecursion}
 use Rattle.nqs_base.specs.declared.extent.Extent.{Extent}
 use Rattle.nqs_base.specs.Path.{is_path}
-use Rattle.nqs_base.proofs.Plain.{all_pass}
+use Rattle.nqs_base.proofs.Plain.{all_pass, all_weaker}
 use Rattle.nqs_types.specs.declared.ids.Dest.{Dest}
 use Rattle.nqs_types.specs.declared.ids.HostId.{HostId}
 use Rattle.nqs_types.specs.declared.ids.RequestId.{RequestId}
@@ -32,8 +32,10 @@ use Rattle.nqs_rules.proofs.StateFacts.{sites_are, host_below}
 use Rattle.nqs_rules.proofs.QueuesOrder.{queue_is}
 use Rattle.nqs_rules.proofs.RowsOrder.{hand_is}
 use Rattle.nqs_rules.proofs.HandoversOrder.{found_peer, known_host}
-use Rattle.nqs_records.specs.Values.{IsHost, IsId}
-use Rattle.nqs_snapshot.specs.Values.{IsMany, IsDest, IsQueue, IsRefused, IsRow, IsHand, IsPromise, IsStage, IsFile, MayStand}
+use Rattle.nqs_records.specs.Values.{IsHost, IsId, IsU64}
+use Rattle.nqs_snapshot.specs.Spelling.{closed_up_to}
+use Rattle.nqs_snapshot.specs.Values.{IsMany, IsDest, IsQueue, IsRefused, IsRow, IsHand, IsPromise, IsPeer, IsOldPeer, alone_above, IsStage, IsFile}
+use Rattle.nqs_snapshot.specs.Values.{MayStand, MayStandOld}
 use Rattle.nqs_snapshot.specs.Typed.{IsTypedDest, IsTypedQueue, IsTypedRefused, IsTypedRow, IsTypedHand, IsTypedPromise, IsTypedStage, IsTypedFile, IsTyped}
 use Rattle.nqs_snapshot.specs.Sound.{HasShortParts}
 use Rattle.nqs_rules.proofs.PathStands.{path_stands}
@@ -127,8 +129,8 @@ module _ (s : State Extent) (h : IsInOrder s) where
           many_both IsTypedPromise IsPromise (is_promise_right s) (λ (p : Promise Extent). nat_le p.row.script.length 32768) promise_stands s.promises
               typed.1.2 h.promises parts.1.0,
         ),
+        typed.2.0,
         (
-          typed.2.0,
           many_both IsTypedStage IsStage (is_stage_right s) (λ (t : Stage Extent). nat_le t.bytes.length 32768) stage_stands s.stages typed.2.1 h.stages
               parts.1.1.0,
           many_both IsTypedFile IsFile (is_file_right s) (λ (f : FileOut Extent). nat_le f.bytes.length 32768) file_stands s.files typed.2.2 h.files
@@ -151,8 +153,31 @@ stands_short s h = chained (list_all (λ (r : Row Extent). nat_le r.script.lengt
       (
         all_pass IsPromise (λ (p : Promise Extent). nat_le p.row.script.length 32768) (λ p k. k.2.4.1) s.promises h.1.2.1,
         (
-          all_pass IsStage (λ (t : Stage Extent). nat_le t.bytes.length 32768) (λ t k. k.3.1) s.stages h.2.1.1,
-          (all_pass IsFile (λ (f : FileOut Extent). nat_le f.bytes.length 32768) (λ f k. k.2.1) s.files h.2.2.1, tt),
+          all_pass IsStage (λ (t : Stage Extent). nat_le t.bytes.length 32768) (λ t k. k.3.1) s.stages h.3.0.1,
+          (all_pass IsFile (λ (f : FileOut Extent). nat_le f.bytes.length 32768) (λ f k. k.2.1) s.files h.3.1.1, tt),
         ),
       ),
     )
+
+-- ---- what stands by the spelling of version 1 stands
+
+pub alone_some : (n : ℕ) → n ≢ 0 → alone_above n ≡ n ∷ []
+alone_some zero some = absurd (some refl)
+alone_some (suc n) some = refl
+
+alone_stands : (n : ℕ) → IsU64 n → IsMany IsU64 (alone_above n)
+alone_stands zero small = (omega arith, tt)
+alone_stands (suc n) small = (omega arith, (small, tt))
+
+old_peer_stands : (p : Peer) → IsOldPeer p → IsPeer p
+old_peer_stands p is = (
+  is.0,
+  omega (arith, is.1.0, is.1.1),
+  subst (IsMany IsU64) (sym is.1.2) (alone_stands (closed_up_to p.closed) is.1.0),
+  is.2,
+  is.3,
+  is.4,
+)
+
+pub old_stands : (s : State Extent) → MayStandOld s → MayStand s
+old_stands s h = (h.0, h.1, (h.2.0, all_weaker IsOldPeer IsPeer old_peer_stands s.peers h.2.1), h.3, h.4)

@@ -1,12 +1,13 @@
 -- The values of a snapshot are read the same whatever follows.
 use Rattle.std.proofs.Common.{ℕ}
+use Rattle.nqs_types.specs.declared.request.Peer.{Peer}
 use Rattle.nqs_records.specs.Reading.{Reading}
 use Rattle.nqs_records.proofs.Steady.{IsSteady, mapped_steady, both_steady, within_steady, counted_steady}
 use Rattle.nqs_records.proofs.SteadyFields.{u8_steady, u16_steady, u32_steady, u64_steady, u8_some, bool_steady, opt_steady}
 use Rattle.nqs_records.proofs.SteadyNames.{name_steady, path_steady}
 use Rattle.nqs_records.proofs.SteadyParts.{host_steady, id_steady, extent_steady, job_steady}
 use Rattle.nqs_snapshot.specs.Readings.{many_at, number_at, kind_at, hold_at, row_state_at, phase_at, access_at, limits_at, dest_at, settings_at, queue_at}
-use Rattle.nqs_snapshot.specs.Readings.{complex_at, device_at, refused_at, course_at, row_at, hand_at, promise_at, peer_at, stage_at, file_at}
+use Rattle.nqs_snapshot.specs.Readings.{complex_at, device_at, refused_at, course_at, row_at, hand_at, promise_at, peer_at, old_peer_at, stage_at, file_at}
 use Rattle.nqs_snapshot.specs.Reading.{site_at, requests_at, dealings_at, counters_at, parts_at}
 
 many_steady : {A : Type 0} (item : Reading A) → IsSteady item → IsSteady (many_at item)
@@ -95,9 +96,16 @@ promise_steady : IsSteady promise_at
 unfolding promise_at
 promise_steady = mapped_steady _ _ (both_steady _ _ host_steady λ _. both_steady _ _ u64_steady λ _. row_steady)
 
-peer_steady : IsSteady peer_at
+pub peer_steady : IsSteady peer_at
 unfolding peer_at
 peer_steady =
+    mapped_steady _ _
+    (both_steady _ _ u64_steady λ _. both_steady _ _ u64_steady λ _. both_steady _ _ (many_steady _ u64_steady) λ _. both_steady _ _ u64_steady λ _.
+    both_steady _ _ u64_steady λ _. u64_steady)
+
+pub old_peer_steady : IsSteady old_peer_at
+unfolding old_peer_at
+old_peer_steady =
     mapped_steady _ _
     (both_steady _ _ u64_steady λ _. both_steady _ _ u64_steady λ _. both_steady _ _ u64_steady λ _. both_steady _ _ u64_steady λ _. u64_steady)
 
@@ -125,7 +133,7 @@ dealings_steady : IsSteady dealings_at
 unfolding dealings_at
 dealings_steady =
     mapped_steady _ _
-    (both_steady _ _ (many_steady _ peer_steady) λ _. both_steady _ _ (many_steady _ stage_steady) λ _. both_steady _ _ (many_steady _ file_steady) λ _.
+    (both_steady _ _ (many_steady _ stage_steady) λ _. both_steady _ _ (many_steady _ file_steady) λ _.
     both_steady _ _ (many_steady _ name_steady) λ _. many_steady _ name_steady)
 
 counters_steady : IsSteady counters_at
@@ -135,7 +143,9 @@ counters_steady =
     (both_steady _ _ (opt_steady _ name_steady) λ _. both_steady _ _ u16_steady λ _. both_steady _ _ u64_steady λ _. both_steady _ _ u64_steady λ _.
     both_steady _ _ u32_steady λ _. both_steady _ _ u64_steady λ _. u64_steady)
 
-pub parts_steady : IsSteady parts_at
+pub parts_steady : (peer : Reading Peer) → IsSteady peer → IsSteady (parts_at peer)
 unfolding parts_at
-parts_steady =
-    mapped_steady _ _ (both_steady _ _ site_steady λ _. both_steady _ _ requests_steady λ _. both_steady _ _ dealings_steady λ _. counters_steady)
+parts_steady peer one =
+    mapped_steady _ _
+    (both_steady _ _ site_steady λ _. both_steady _ _ requests_steady λ _. both_steady _ _ (many_steady _ one) λ _. both_steady _ _ dealings_steady λ _.
+    counters_steady)

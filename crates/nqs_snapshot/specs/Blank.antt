@@ -1,8 +1,9 @@
 -- States whose tables are still to be filled.
-use Rattle.std.specs.Prelude.{◌≡◌, Bool, ◌&&◌, [], map}
+use Rattle.std.specs.Prelude.{◌≡◌, Bool, ◌&&◌, List, [], map}
 use Rattle.nqs_base.specs.Same.{name_eq}
 use Rattle.nqs_types.specs.Ids.{id_eq, peer_number_eq, hand_key, promise_key, stage_key}
 use Rattle.nqs_base.specs.declared.extent.Extent.{Extent}
+use Rattle.nqs_types.specs.declared.request.Peer.{Peer}
 use Rattle.nqs_state.specs.State.{State}
 use Rattle.nqs_rules.specs.InOrder.{are_distinct, same_number}
 use Rattle.nqs_snapshot.specs.declared.parts.SitePart.{SitePart}
@@ -47,9 +48,13 @@ with_site p s = record s { me = p.me; site = p.site; queues = p.queues; complexe
 abbrev pub with_requests : RequestPart → State Extent → State Extent
 with_requests p s = record s { rows = p.rows; hands = p.hands; promises = p.promises }
 
+-- the same of the peers
+abbrev pub with_peers : List Peer → State Extent → State Extent
+with_peers peers s = record s { peers = peers }
+
 -- the same of the dealings
 abbrev pub with_dealings : DealingPart → State Extent → State Extent
-with_dealings p s = record s { peers = p.peers; stages = p.stages; files = p.files; managers = p.managers; operators = p.operators }
+with_dealings p s = record s { stages = p.stages; files = p.files; managers = p.managers; operators = p.operators }
 
 -- the same of the parameters and counters
 abbrev pub with_counters : CounterPart → State Extent → State Extent

@@ -3,33 +3,32 @@ use Rattle.std.specs.Prelude.{◌≡◌, ◌≢◌, ◌↔◌, ◌⊎◌, ℕ, �
 use Rattle.nqs_base.specs.declared.extent.Extent.{Extent}
 use Rattle.nqs_base.specs.Want.{want}
 use Rattle.nqs_state.specs.State.{State}
+use Rattle.nqs_records.specs.Reading.{Read}
 use Rattle.nqs_records.specs.Changes.{AreBytes}
 use Rattle.nqs_records.specs.Whole.{IsFollowed, IsCut, SpellsNoneWith}
 use Rattle.nqs_records.specs.declared.fault.RecordFault.TheVariants.{Short, Kind, BadField, Trailing, Memory}
-use Rattle.nqs_snapshot.specs.Spelling.{state_field}
-use Rattle.nqs_snapshot.specs.Values.{MayStand}
 use Rattle.nqs_snapshot.specs.Sound.{is_sound}
-use Rattle.nqs_snapshot.specs.Reading.{snapshot_of}
 
--- the bytes of a state from which no host may go on
-pub record IsUnsound (bytes : List ℕ) : Type 0 where
+-- the bytes of a state that may stand, by its spelling, from which no host may go on
+pub record IsUnsound (May : State Extent → Type 0) (spelling : State Extent → List ℕ) (bytes : List ℕ) : Type 0 where
   pub state : State Extent
-  pub may : MayStand state
-  pub text : bytes ≡ state_field state
+  pub may : May state
+  pub text : bytes ≡ spelling state
   pub unsound : is_sound state ≡ false
 
 -- Short is told at the end, of each state cut off too; what follows a state, and a state that isn't
 -- in order, are told exactly. A bad field else is final.
-pub record HasFirstFaults (bytes : List ℕ) : Type 0 where
-  pub short : (end : ℕ) → snapshot_of bytes ≡ Err (Short end) → end ≡ length bytes
-  pub cut : IsCut MayStand state_field bytes → snapshot_of bytes ≡ Err (Short (length bytes))
-  pub trailing : (place : ℕ) → snapshot_of bytes ≡ Err (Trailing place) ↔ IsFollowed MayStand state_field bytes place
-  pub field : (place : ℕ) → snapshot_of bytes ≡ Err (BadField place)
-      → ((place < length bytes) × SpellsNoneWith MayStand state_field bytes) ⊎ ((place ≡ 0) × IsUnsound bytes)
-  pub unsound : IsUnsound bytes → snapshot_of bytes ≡ Err (BadField 0)
-  pub kind : (place : ℕ) → snapshot_of bytes ≢ Err (Kind place)
-  pub memory : snapshot_of bytes ≢ Err (Memory want)
+pub record HasFirstFaults (May : State Extent → Type 0) (spelling : State Extent → List ℕ) (reads : List ℕ → Read (State Extent)) (bytes : List ℕ) : Type 0
+  where
+    pub short : (end : ℕ) → reads bytes ≡ Err (Short end) → end ≡ length bytes
+    pub cut : IsCut May spelling bytes → reads bytes ≡ Err (Short (length bytes))
+    pub trailing : (place : ℕ) → reads bytes ≡ Err (Trailing place) ↔ IsFollowed May spelling bytes place
+    pub field : (place : ℕ) → reads bytes ≡ Err (BadField place)
+        → ((place < length bytes) × SpellsNoneWith May spelling bytes) ⊎ ((place ≡ 0) × IsUnsound May spelling bytes)
+    pub unsound : IsUnsound May spelling bytes → reads bytes ≡ Err (BadField 0)
+    pub kind : (place : ℕ) → reads bytes ≢ Err (Kind place)
+    pub memory : reads bytes ≢ Err (Memory want)
 
--- the first faults of all bytes
-abbrev pub FirstFaults : Type 0
-FirstFaults = (bytes : List ℕ) → AreBytes bytes → HasFirstFaults bytes
+-- the first faults of all bytes, of a reading by a spelling of the states that may stand
+abbrev pub FirstFaults : (State Extent → Type 0) → (State Extent → List ℕ) → (List ℕ → Read (State Extent)) → Type 0
+FirstFaults May spelling reads = (bytes : List ℕ) → AreBytes bytes → HasFirstFaults May spelling reads bytes

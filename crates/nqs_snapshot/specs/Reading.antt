@@ -7,12 +7,13 @@ use Rattle.nqs_records.specs.declared.fault.RecordFault.TheVariants.{BadField}
 use Rattle.nqs_records.specs.Reading.{◌>>=◌, Read, Reading, mapped, both, alone}
 use Rattle.nqs_records.specs.Fields.{u16_at, u32_at, u64_at, opt_at, name_at}
 use Rattle.nqs_records.specs.Parts.{host_at}
+use Rattle.nqs_types.specs.declared.request.Peer.{Peer}
 use Rattle.nqs_snapshot.specs.declared.parts.SitePart.{SitePart}
 use Rattle.nqs_snapshot.specs.declared.parts.RequestPart.{RequestPart}
 use Rattle.nqs_snapshot.specs.declared.parts.DealingPart.{DealingPart}
 use Rattle.nqs_snapshot.specs.declared.parts.CounterPart.{CounterPart}
 use Rattle.nqs_snapshot.specs.declared.parts.Parts.{Parts}
-use Rattle.nqs_snapshot.specs.Readings.{many_at, queue_at, complex_at, device_at, row_at, hand_at, promise_at, peer_at, stage_at, file_at}
+use Rattle.nqs_snapshot.specs.Readings.{many_at, queue_at, complex_at, device_at, row_at, hand_at, promise_at, peer_at, old_peer_at, stage_at, file_at}
 use Rattle.nqs_snapshot.specs.Sound.{is_sound}
 
 -- who the host is, the hosts of its site, and its queues, complexes and devices
@@ -27,10 +28,10 @@ requests_at = mapped (λ v. record { rows = v.0; hands = v.1.0; promises = v.1.1
     both (many_at row_at) λ _. both (many_at hand_at) λ _. many_at promise_at
     )
 
--- what it knows of each host, its stages and files, its managers and operators
+-- its stages and files, its managers and operators
 unfoldable pub dealings_at : Reading DealingPart
-dealings_at = mapped (λ v. record { peers = v.0; stages = v.1.0; files = v.1.1.0; managers = v.1.1.1.0; operators = v.1.1.1.1 }) (
-    both (many_at peer_at) λ _. both (many_at stage_at) λ _. both (many_at file_at) λ _. both (many_at name_at) λ _. many_at name_at
+dealings_at = mapped (λ v. record { stages = v.0; files = v.1.0; managers = v.1.1.0; operators = v.1.1.1 }) (
+    both (many_at stage_at) λ _. both (many_at file_at) λ _. both (many_at name_at) λ _. many_at name_at
     )
 
 -- the values of the parameters and counters, in order
@@ -55,10 +56,10 @@ counters_at = mapped counters_of (
     both (opt_at name_at) λ _. both u16_at λ _. both u64_at λ _. both u64_at λ _. both u32_at λ _. both u64_at λ _. u64_at
     )
 
--- all parts of a state, in order
-unfoldable pub parts_at : Reading Parts
-parts_at = mapped (λ v. record { site = v.0; requests = v.1.0; dealings = v.1.1.0; counters = v.1.1.1 }) (
-    both site_at λ _. both requests_at λ _. both dealings_at λ _. counters_at
+-- all parts of a state, in order, with what it knows of each host as that is read
+unfoldable pub parts_at : Reading Peer → Reading Parts
+parts_at peer = mapped (λ v. record { site = v.0; requests = v.1.0; peers = v.1.1.0; dealings = v.1.1.1.0; counters = v.1.1.1.1 }) (
+    both site_at λ _. both requests_at λ _. both (many_at peer) λ _. both dealings_at λ _. counters_at
     )
 
 -- the state of these parts
@@ -72,7 +73,7 @@ state_of p = record {
   rows = p.requests.rows;
   hands = p.requests.hands;
   promises = p.requests.promises;
-  peers = p.dealings.peers;
+  peers = p.peers;
   stages = p.dealings.stages;
   files = p.dealings.files;
   managers = p.dealings.managers;
@@ -91,11 +92,19 @@ abbrev pub or_bad : State Extent → Read (State Extent)
 or_bad s = if is_sound s then Ok s else Err (BadField 0)
 
 -- the parts that stand in the whole list
-unfoldable pub whole_of : List ℕ → Read Parts
-whole_of bytes = alone parts_at bytes 0
+unfoldable pub whole_of : Reading Peer → List ℕ → Read Parts
+whole_of peer bytes = alone (parts_at peer) bytes 0
+
+-- the whole list as one state, with what it knows of each host as that is read
+unfoldable pub state_read_by : Reading Peer → List ℕ → Read (State Extent)
+state_read_by peer bytes = do
+  parts ← whole_of peer bytes
+  or_bad (state_of parts)
 
 -- the whole list as one state
-unfoldable pub snapshot_of : List ℕ → Read (State Extent)
-snapshot_of bytes = do
-  parts ← whole_of bytes
-  or_bad (state_of parts)
+abbrev pub snapshot_of : List ℕ → Read (State Extent)
+snapshot_of bytes = state_read_by peer_at bytes
+
+-- the whole list as one state by the spelling of version 1
+abbrev pub old_snapshot_of : List ℕ → Read (State Extent)
+old_snapshot_of bytes = state_read_by old_peer_at bytes

@@ -30,6 +30,7 @@ use Rattle.nqs_records.specs.Reading.{Reading, mapped, both, within, counted}
 use Rattle.nqs_records.specs.Fields.{u8_at, u16_at, u64_at, bool_at, opt_at, name_at, path_at}
 use Rattle.nqs_records.specs.Parts.{host_at, id_at, extent_at, job_at}
 use Rattle.nqs_records.specs.Values.{is_at_most}
+use Rattle.nqs_snapshot.specs.Values.{floor_below, alone_above}
 use Rattle.nqs_snapshot.specs.declared.read_queues.Settings.{Settings}
 use Rattle.nqs_snapshot.specs.declared.read_requests.Course.{Course}
 
@@ -220,8 +221,28 @@ promise_at = mapped (λ v. record { peer = v.0; number = v.1.0; row = v.1.1 }) (
 -- what is known of another host: how far handovers and stages are, and until when to wait
 unfoldable pub peer_at : Reading Peer
 peer_at =
-    mapped (λ v. record { next = v.0; closed = v.1.0; wait = v.1.1.0; stage_next = v.1.1.1.0; stage_got = v.1.1.1.1 })
-    (both u64_at λ _. both u64_at λ _. both u64_at λ _. both u64_at λ _. u64_at)
+    mapped (λ v. record { next = v.0; floor = v.1.0; closed = v.1.1.0; wait = v.1.1.1.0; stage_next = v.1.1.1.1.0; stage_got = v.1.1.1.1.1 })
+    (both u64_at λ _. both u64_at λ _. both (many_at u64_at) λ _. both u64_at λ _. both u64_at λ _. u64_at)
+
+-- the numbers of an old peer, in order
+abbrev pub OldPeerFields : Type 0
+OldPeerFields = ℕ × (ℕ × (ℕ × (ℕ × ℕ)))
+
+-- what an old peer becomes: of its closed number k the floor k - 1 and the entry k, of 0 the floor
+-- 0 and none
+abbrev pub renewed : OldPeerFields → Peer
+renewed v = record {
+  next = v.0;
+  floor = floor_below v.1.0;
+  closed = alone_above v.1.0;
+  wait = v.1.1.0;
+  stage_next = v.1.1.1.0;
+  stage_got = v.1.1.1.1;
+}
+
+-- what was known of another host by the spelling of version 1
+unfoldable pub old_peer_at : Reading Peer
+old_peer_at = mapped renewed (both u64_at λ _. both u64_at λ _. both u64_at λ _. both u64_at λ _. u64_at)
 
 -- an output on its way to another host, and where its bytes are
 unfoldable pub stage_at : Reading (Stage Extent)

@@ -4,9 +4,8 @@ use Rattle.std.specs.List.{list_all}
 use Rattle.nqs_base.specs.declared.extent.Extent.{Extent}
 use Rattle.nqs_types.specs.Ids.{id_eq}
 use Rattle.nqs_state.specs.State.{State}
-use Rattle.nqs_rules.specs.Tests.{same_host}
 use Rattle.nqs_rules.specs.InOrder.{IsInOrder, IsConsistent, are_distinct, same_number, is_site_right, are_parameters_right, are_lists_short, are_parts_short}
-use Rattle.nqs_rules.specs.InOrder.{are_keys_distinct, arrivals_of, is_queue_right, is_complex_right, is_row_right, is_promise_right, promisers}
+use Rattle.nqs_rules.specs.InOrder.{are_keys_distinct, arrivals_of, is_queue_right, is_complex_right, is_row_right, is_promise_right}
 use Rattle.nqs_rules.specs.InOrder.{is_hand_right, has_few_hands, offered_ids, is_peer_right, is_stage_right, is_file_right}
 use Rattle.nqs_rules.specs.InOrder.{is_doom_right, is_hold_right, has_hand, is_promise_free, is_hand_of_given}
 
@@ -25,10 +24,9 @@ are_values_right s =
 unfoldable pub are_hands_few : State Extent → Bool
 are_hands_few s = list_all (has_few_hands s) s.hands
 
--- no arrival comes twice, no host has two promises, no request two offers
+-- no arrival comes twice, and no request has two offers
 unfoldable pub are_numbers_distinct : State Extent → Bool
-are_numbers_distinct s =
-    are_distinct same_number (arrivals_of s) && (are_distinct same_host (promisers s) && are_distinct id_eq (offered_ids s))
+are_numbers_distinct s = are_distinct same_number (arrivals_of s) && are_distinct id_eq (offered_ids s)
 
 -- what the rules ask of a state in order, but that its keys are distinct
 unfoldable pub is_right : State Extent → Bool

@@ -125,7 +125,22 @@ promise_field p = fields (u8_field p.peer.0 ∷ u64_field p.number ∷ row_field
 
 -- what is known of another host
 unfoldable pub peer_field : Peer → List ℕ
-peer_field p = fields (u64_field p.next ∷ u64_field p.closed ∷ u64_field p.wait ∷ u64_field p.stage_next ∷ u64_field p.stage_got ∷ [])
+peer_field p = fields (
+    u64_field p.next ∷ u64_field p.floor ∷ many_field u64_field p.closed ∷ u64_field p.wait ∷ u64_field p.stage_next ∷ u64_field p.stage_got
+    ∷ []
+    )
+
+-- the number up to which an old peer had each handover closed: the first of these, 0 where there is
+-- none
+abbrev pub closed_up_to : List ℕ → ℕ
+closed_up_to [] = 0
+closed_up_to (n ∷ ns) = n
+
+-- the same by the spelling of version 1, which has one closed number, and each below it is closed
+unfoldable pub old_peer_field : Peer → List ℕ
+old_peer_field p = fields (
+    u64_field p.next ∷ u64_field (closed_up_to p.closed) ∷ u64_field p.wait ∷ u64_field p.stage_next ∷ u64_field p.stage_got ∷ []
+    )
 
 -- an output on its way
 unfoldable pub stage_field : Stage Extent → List ℕ
@@ -135,7 +150,7 @@ stage_field t = fields (u8_field t.peer.0 ∷ u64_field t.number ∷ short_field
 unfoldable pub file_field : FileOut Extent → List ℕ
 file_field f = fields (u64_field f.number ∷ short_field f.path ∷ extent_field f.bytes ∷ [])
 
--- ---- a whole state, in four parts
+-- ---- a whole state, in five parts
 
 -- who the host is, and its queues, complexes and devices
 unfoldable pub site_part : State Extent → List ℕ
@@ -148,11 +163,10 @@ site_part s = fields (
 unfoldable pub request_part : State Extent → List ℕ
 request_part s = fields (many_field row_field s.rows ∷ many_field hand_field s.hands ∷ many_field promise_field s.promises ∷ [])
 
--- its dealings with other hosts, its files, and who may change it
+-- its outputs for other hosts, its files, and who may change it
 unfoldable pub dealing_part : State Extent → List ℕ
 dealing_part s = fields (
-    many_field peer_field s.peers ∷ many_field stage_field s.stages ∷ many_field file_field s.files
-    ∷ many_field short_field s.managers ∷ many_field short_field s.operators ∷ []
+    many_field stage_field s.stages ∷ many_field file_field s.files ∷ many_field short_field s.managers ∷ many_field short_field s.operators ∷ []
     )
 
 -- its parameters and counters
@@ -162,6 +176,14 @@ counter_part s = fields (
     ∷ u64_field s.arrivals ∷ u64_field s.file_next ∷ []
     )
 
--- a state: its parts in this order, and nothing else
-unfoldable pub state_field : State Extent → List ℕ
-state_field s = fields (site_part s ∷ request_part s ∷ dealing_part s ∷ counter_part s ∷ [])
+-- a state: its parts in this order, of which the third is that field of each peer, and nothing else
+unfoldable pub state_by : (Peer → List ℕ) → State Extent → List ℕ
+state_by peer s = fields (site_part s ∷ request_part s ∷ many_field peer s.peers ∷ dealing_part s ∷ counter_part s ∷ [])
+
+-- a state
+abbrev pub state_field : State Extent → List ℕ
+state_field s = state_by peer_field s
+
+-- a state by the spelling of version 1
+abbrev pub old_state_field : State Extent → List ℕ
+old_state_field s = state_by old_peer_field s

@@ -1,5 +1,5 @@
 -- The values that may stand in a snapshot: those that have a field.
-use Rattle.std.specs.Prelude.{IsTrue, List}
+use Rattle.std.specs.Prelude.{◌≡◌, ℕ, zero, suc, ◌-◌, IsTrue, List, [], ◌∷◌}
 use Rattle.nqs_base.specs.Name.{IsName}
 use Rattle.nqs_base.specs.Path.{IsPath}
 use Rattle.nqs_base.specs.declared.extent.Extent.{Extent}
@@ -18,6 +18,7 @@ use Rattle.nqs_types.specs.declared.queue.QueueDef.{QueueDef}
 use Rattle.nqs_types.specs.declared.queue.ComplexDef.{ComplexDef}
 use Rattle.nqs_types.specs.declared.queue.DeviceDef.{DeviceDef}
 use Rattle.nqs_state.specs.State.{State}
+use Rattle.nqs_snapshot.specs.Spelling.{closed_up_to}
 use Rattle.nqs_records.specs.Values.{is_at_most, IsU8, IsU16, IsU32, IsU64, IsAny, IsOpt, IsList, IsHost, IsId, IsExtent, IsJob}
 
 -- as many values as a number of 64 bits counts
@@ -76,7 +77,24 @@ IsPromise p = IsHost p.peer × IsU64 p.number × IsRow p.row
 
 -- numbers of 64 bits
 abbrev pub IsPeer : Peer → Type 0
-IsPeer p = IsU64 p.next × IsU64 p.closed × IsU64 p.wait × IsU64 p.stage_next × IsU64 p.stage_got
+IsPeer p = IsU64 p.next × IsU64 p.floor × IsMany IsU64 p.closed × IsU64 p.wait × IsU64 p.stage_next × IsU64 p.stage_got
+
+-- the numbers up to this one are closed: the floor is the one below it
+abbrev pub floor_below : ℕ → ℕ
+floor_below number = number - 1
+
+-- and it stands alone above the floor, unless no number is closed
+abbrev pub alone_above : ℕ → List ℕ
+alone_above zero = []
+alone_above (suc n) = suc n ∷ []
+
+-- each number up to one of 64 bits is closed, and no other
+abbrev pub IsClosedUpTo : Peer → ℕ → Type 0
+IsClosedUpTo p number = IsU64 number × (p.floor ≡ floor_below number) × (p.closed ≡ alone_above number)
+
+-- what an old peer became
+abbrev pub IsOldPeer : Peer → Type 0
+IsOldPeer p = IsU64 p.next × IsClosedUpTo p (closed_up_to p.closed) × IsU64 p.wait × IsU64 p.stage_next × IsU64 p.stage_got
 
 -- an output on its way to a path of a host
 abbrev pub IsStage : Stage Extent → Type 0
@@ -96,8 +114,7 @@ MayStandRequests s = IsMany IsRow s.rows × IsMany IsHand s.hands × IsMany IsPr
 
 -- those of the dealings
 abbrev pub MayStandDealings : State Extent → Type 0
-MayStandDealings s =
-    IsMany IsPeer s.peers × IsMany IsStage s.stages × IsMany IsFile s.files × IsMany IsName s.managers × IsMany IsName s.operators
+MayStandDealings s = IsMany IsStage s.stages × IsMany IsFile s.files × IsMany IsName s.managers × IsMany IsName s.operators
 
 -- those of the parameters and counters
 abbrev pub MayStandCounters : State Extent → Type 0
@@ -105,6 +122,14 @@ MayStandCounters s =
     IsOpt IsName s.default_queue × IsU16 s.global_limit × IsU64 s.patience × IsU64 s.retry_wait × IsU32 s.seq × IsU64 s.arrivals
     × IsU64 s.file_next
 
+-- each value of a state has a field, and its peers are such
+abbrev pub MayStandBy : (Peer → Type 0) → State Extent → Type 0
+MayStandBy IsKnown s = MayStandSite s × MayStandRequests s × IsMany IsKnown s.peers × MayStandDealings s × MayStandCounters s
+
 -- each value of a state has a field
 abbrev pub MayStand : State Extent → Type 0
-MayStand s = MayStandSite s × MayStandRequests s × MayStandDealings s × MayStandCounters s
+MayStand s = MayStandBy IsPeer s
+
+-- the same by the spelling of version 1
+abbrev pub MayStandOld : State Extent → Type 0
+MayStandOld s = MayStandBy IsOldPeer s

@@ -3,9 +3,8 @@
 ghost use Rattle.std.specs.Prelude.{◌≡◌, ◌++◌, ◌∷◌, [], map, filter, OnOk, IfOk};
 ghost use Rattle.nqs_state.specs.State.{content};
 ghost use Rattle.nqs_types.specs.Ids.{id_eq};
-ghost use Rattle.nqs_rules.specs.Tests.{same_host};
 ghost use Rattle.nqs_rules.specs.Fits.{is_offered_hand};
-ghost use Rattle.nqs_rules.specs.InOrder.{are_distinct, same_number, arrivals_of, promisers, offered_ids};
+ghost use Rattle.nqs_rules.specs.InOrder.{are_distinct, same_number, arrivals_of, offered_ids};
 ghost use Rattle.nqs_snapshot.specs.Sound.{are_numbers_distinct};
 
 use crate::tables::fill;
@@ -81,20 +80,6 @@ fn add_promise_arrivals(
     Ok(())
 }
 
-fn add_promisers(
-    promises: &Table<PeerNumber, Promise>,
-    numbers: &mut Vec<Number>,
-) -> Result<(), AllocError>
-    ensures { OnOk result (map (λ n. n.0) numbers.new.items ≡ map (λ n. n.0) numbers.old.items ++ map (λ p. p.peer.0) promises.now.items) }
-{
-    let mut place = 0usize;
-    while place < promises.len() {
-        numbers.push(Number(u64::from(promises.at(place).peer.0)))?;
-        place += 1;
-    }
-    Ok(())
-}
-
 // The request of a hand that is offered.
 fn add_if_offered(hand: &Hand, requests: &mut Vec<Request>) -> Result<(), AllocError>
     ensures { OnOk result (map (λ r. r.0) requests.new.items ≡ map (λ r. r.0) requests.old.items ++ map (λ h. h.id) (filter is_offered_hand (hand.now ∷ []))) }
@@ -129,15 +114,6 @@ fn arrivals_differ(alloc: Global, state: &HostState) -> Result<bool, AllocError>
     numbers_differ(alloc, numbers)
 }
 
-// Whether no host has two promises.
-fn promisers_differ(alloc: Global, state: &HostState) -> Result<bool, AllocError>
-    ensures { IfOk result (λ differ. differ ≡ are_distinct same_host (promisers (content state.now))) }
-{
-    let mut numbers = Vec::new(alloc);
-    add_promisers(&state.promises, &mut numbers)?;
-    numbers_differ(alloc, numbers)
-}
-
 // Whether no request has two offers.
 fn offers_differ(alloc: Global, state: &HostState) -> Result<bool, AllocError>
     ensures { IfOk result (λ differ. differ ≡ are_distinct id_eq (offered_ids (content state.now))) }
@@ -147,15 +123,12 @@ fn offers_differ(alloc: Global, state: &HostState) -> Result<bool, AllocError>
     requests_differ(alloc, requests)
 }
 
-/// Whether no arrival comes twice, no host has two promises and no request two offers.
+/// Whether no arrival comes twice, and no request has two offers.
 #[tactic(auto, unfolding(crate::specs::Sound::are_numbers_distinct))]
 pub(crate) fn are_numbers_distinct(alloc: Global, state: &HostState) -> Result<bool, AllocError>
     ensures { IfOk result (λ distinct. distinct ≡ are_numbers_distinct (content state.now)) }
 {
     if !arrivals_differ(alloc, state)? {
-        return Ok(false);
-    }
-    if !promisers_differ(alloc, state)? {
         return Ok(false);
     }
     offers_differ(alloc, state)

@@ -10,6 +10,9 @@
 //! and what stands behind a whole state is `Trailing`. A state that reads and from which no host
 //! may go on, since it isn't in order or isn't consistent (`specs/Sound.antt`), is `BadField(0)`.
 //!
+//! Snapshots of version 1 have peers with one closed number (`old_peer_field`). They are read and no
+//! longer written: `read_old_state` makes of each such peer one with a floor (`renewed`).
+//!
 //! Keys are looked for in the tables that are filled, and so are arrivals, promises and offers:
 //! what a read costs grows with the length of the bytes, and not with its square.
 #![tactic(auto)]
@@ -38,8 +41,8 @@ mod typed;
 mod write;
 
 pub use laws::{
-    first_faults, formatted_host, reads_the_spelling, sound_is_in_order, spells_one,
-    what_stands_is_short,
+    first_faults, formatted_host, old_peers_become, reads_the_spelling, sound_is_in_order,
+    spells_one, what_stands_is_short,
 };
-pub use read::read_state;
+pub use read::{read_old_state, read_state};
 pub use write::write_state;

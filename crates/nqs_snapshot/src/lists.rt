@@ -10,6 +10,9 @@ use std::alloc::Global;
 /// The form that values have in a snapshot.
 pub(crate) struct InSnapshot;
 
+/// The form that peers, and a whole state for their sake, have in a snapshot of version 1.
+pub(crate) struct InOldSnapshot;
+
 /// As many values as the count at the place says.
 pub(crate) fn read_many<T: Read<InSnapshot>>(
     alloc: Global,

@@ -1,12 +1,12 @@
 //! What the rules ask of a host in order, value by value. `nqs_rules/specs/InOrder.antt` has it.
 
-ghost use Rattle.std.specs.Prelude.{◌≡◌, Bool};
+ghost use Rattle.std.specs.Prelude.{◌≡◌, nat_lt, Bool};
 ghost use Rattle.std.specs.List.{AllByRecursion, list_all};
 ghost use Rattle.nqs_base.specs.declared.extent.Extent.{Extent};
 ghost use Rattle.nqs_state.specs.State.{State, content};
 ghost use Rattle.nqs_rules.specs.Conf.{is_wait};
 ghost use Rattle.nqs_rules.specs.Fits.{is_site_host};
-ghost use Rattle.nqs_rules.specs.InOrder.{is_default_there, is_site_right, are_lists_short, are_parameters_right, is_peer_right};
+ghost use Rattle.nqs_rules.specs.InOrder.{is_default_there, is_site_right, are_lists_short, are_parameters_right, ascends_from, is_peer_right};
 
 use crate::lists::InSnapshot;
 use nqs_base::{Key, Keyed};
@@ -103,13 +103,36 @@ pub(crate) fn are_parameters_right(state: &HostState) -> bool
         && is_default_there(state)
 }
 
+fn is_below(number: u64, next: u64) -> bool
+    ensures { result ≡ nat_lt number next }
+{
+    number < next
+}
+
+// Whether each number is greater than the one before it, the first one than the floor.
+fn ascends_from(floor: u64, closed: &[u64]) -> bool
+    ensures { result ≡ ascends_from floor closed.now }
+{
+    let mut last = floor;
+    let mut rest = closed;
+    while let Some((number, more)) = rest.split_first() {
+        if !is_below(last, *number) {
+            return false;
+        }
+        last = *number;
+        rest = more;
+    }
+    true
+}
+
 fn is_peer_right(peer: &Peer) -> bool
     ensures { result ≡ is_peer_right peer.now }
 {
-    1 <= peer.next && 1 <= peer.stage_next
+    1 <= peer.next && 1 <= peer.stage_next && ascends_from(peer.floor, peer.closed.as_slice())
 }
 
-/// Whether the numbers that each peer gets next begin at 1.
+/// Whether the numbers that each peer gets next begin at 1, and its closed ones ascend above its
+/// floor.
 pub(crate) fn are_peers_right(state: &HostState) -> bool
     ensures { result ≡ list_all is_peer_right state.now.peers }
 {

@@ -6,7 +6,7 @@ ghost use Rattle.nqs_state.specs.State.{content};
 ghost use Rattle.nqs_rules.specs.InOrder.{are_keys_distinct};
 ghost use Rattle.nqs_snapshot.specs.Reading.{state_of};
 ghost use Rattle.nqs_snapshot.specs.Blank.{IsBlank, are_names_distinct, are_requests_distinct, are_outputs_distinct, with_site, with_requests, with_dealings};
-ghost use Rattle.nqs_snapshot.specs.Blank.{with_counters};
+ghost use Rattle.nqs_snapshot.specs.Blank.{with_peers, with_counters};
 
 use crate::tables::fill;
 use nqs_base::{Items, ListOf, Name, NameList, Spare};
@@ -54,9 +54,8 @@ impl Drop for RequestPart {
     }
 }
 
-/// Its dealings with other hosts, its files, and who may change it.
+/// Its outputs for other hosts, its files, and who may change it.
 pub(crate) struct DealingPart {
-    pub peers: PeerList,
     pub stages: Items<Stage>,
     pub files: Items<FileOut>,
     pub managers: NameList,
@@ -66,7 +65,6 @@ pub(crate) struct DealingPart {
 impl Drop for DealingPart {
     fn drop(self) {
         let DealingPart {
-            peers: _,
             stages: _,
             files: _,
             managers: _,
@@ -91,6 +89,8 @@ pub(crate) struct CounterPart {
 pub(crate) struct Parts {
     pub site: SitePart,
     pub requests: RequestPart,
+    /// What it knows of each host.
+    pub peers: PeerList,
     pub dealings: DealingPart,
     pub counters: CounterPart,
 }
@@ -100,6 +100,7 @@ impl Drop for Parts {
         let Parts {
             site: _,
             requests: _,
+            peers: _,
             dealings: _,
             counters: _,
         } = self;
@@ -119,7 +120,7 @@ fn blank(alloc: Global) -> HostState
         rows: Rows::new(alloc),
         hands: Table::new(alloc),
         promises: Table::new(alloc),
-        peers: ListOf::new(alloc),
+        peers: Items::new(alloc),
         stages: Table::new(alloc),
         files: Table::new(alloc),
         managers: ListOf::new(alloc),
@@ -134,6 +135,7 @@ fn blank(alloc: Global) -> HostState
         spare_names: Spare::new(alloc),
         spare_dests: Spare::new(alloc),
         spare_refused: Spare::new(alloc),
+        spare_closed: Spare::new(alloc),
     }
 }
 
@@ -193,19 +195,23 @@ impl DealingPart {
         ensures filled { IfOk result (λ filled. filled ≡ true → content state.new ≡ with_dealings self (content state.old)) }
     {
         let DealingPart {
-            peers,
             stages,
             files,
             managers,
             operators,
         } = self;
-        state.peers = peers;
         state.managers = managers;
         state.operators = operators;
         let stages_differ = fill(&mut state.stages, stages)?;
         let files_differ = fill(&mut state.files, files)?;
         Ok(stages_differ && files_differ)
     }
+}
+
+fn set_peers(state: &mut HostState, peers: PeerList)
+    ensures { content state.new ≡ with_peers peers (content state.old) }
+{
+    state.peers = peers;
 }
 
 fn set_counters(state: &mut HostState, part: CounterPart)
@@ -230,11 +236,13 @@ impl Parts {
         let Parts {
             site,
             requests,
+            peers,
             dealings,
             counters,
         } = self;
         let mut state = blank(alloc);
         set_counters(&mut state, counters);
+        set_peers(&mut state, peers);
         if !site.fill(&mut state)? {
             return Ok(None);
         }

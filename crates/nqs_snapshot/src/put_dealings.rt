@@ -2,12 +2,13 @@
 //! there.
 
 ghost use Rattle.std.specs.Prelude.{⊤, ◌≡◌, ◌∷◌, [], ◌≤◌, length, IsTrue};
-ghost use Rattle.nqs_codec.specs.Fields.{short_field};
+ghost use Rattle.nqs_codec.specs.Fields.{u64_field, short_field};
 ghost use Rattle.nqs_records.specs.Adds.{Adds};
 ghost use Rattle.nqs_rules.specs.Sane.{is_sane_job};
 ghost use Rattle.nqs_base.specs.Path.{is_path};
 ghost use Rattle.nqs_snapshot.specs.Spelling.{phase_number, hand_field, promise_field, peer_field, stage_field, file_field};
 
+use crate::field::put_list;
 use crate::lists::InSnapshot;
 use nqs_base::{Bytes, Memory};
 use nqs_codec::{put_name, put_path, put_u8, put_u64};
@@ -52,6 +53,16 @@ impl Put<InSnapshot> for Promise {
     }
 }
 
+impl Put<InSnapshot> for u64 {
+    ghost field = { u64_field };
+
+    ghost IsPut = { λ _. ⊤ };
+
+    fn put(&self, out: &mut Vec<u8>) -> Result<(), Memory> {
+        put_u64(*self, out)
+    }
+}
+
 impl Put<InSnapshot> for Peer {
     ghost field = { peer_field };
 
@@ -60,7 +71,8 @@ impl Put<InSnapshot> for Peer {
     #[tactic(auto, using(crate::proofs::Joined::joined), unfolding(crate::specs::Spelling::peer_field))]
     fn put(&self, out: &mut Vec<u8>) -> Result<(), Memory> {
         put_u64(self.next, out)?;
-        put_u64(self.closed, out)?;
+        put_u64(self.floor, out)?;
+        put_list(self.closed.as_slice(), out)?;
         put_u64(self.wait, out)?;
         put_u64(self.stage_next, out)?;
         put_u64(self.stage_got, out)

@@ -1,16 +1,19 @@
 //! Dealings with other hosts, and files, read at a place of bytes.
 
-ghost use Rattle.std.specs.Prelude.{◌≡◌};
+ghost use Rattle.std.specs.Prelude.{◌≡◌, IfOk};
+ghost use Rattle.nqs_records.specs.Fields.{u64_at};
 ghost use Rattle.nqs_records.specs.Reading.{Answers};
-ghost use Rattle.nqs_snapshot.specs.Readings.{phase_of, phase_at, hand_at, promise_at, peer_at, stage_at, file_at};
+ghost use Rattle.nqs_snapshot.specs.Readings.{phase_of, phase_at, hand_at, promise_at, peer_at, old_peer_at, stage_at, file_at};
+ghost use Rattle.nqs_snapshot.specs.Values.{alone_above};
 
-use crate::lists::InSnapshot;
+use crate::lists::{InOldSnapshot, InSnapshot, read_list};
+use nqs_base::ListOf;
 use nqs_records::{
     Read, RecordFault, read_extent, read_host, read_id, read_name, read_path, read_u8_at_most,
     read_u64,
 };
-use nqs_types::{FileOut, Hand, Peer, Phase, Promise, Row, Stage};
-use std::alloc::Global;
+use nqs_types::{FileOut, Hand, NumberList, Peer, Phase, Promise, Row, Stage};
+use std::alloc::{AllocError, Global};
 
 fn phase_of(number: u8) -> Phase
     ensures { result ≡ phase_of number }
@@ -64,18 +67,64 @@ impl Read<InSnapshot> for Promise {
     }
 }
 
+impl Read<InSnapshot> for u64 {
+    ghost at = { u64_at };
+
+    fn read(_alloc: Global, bytes: &[u8], place: u64) -> Result<(u64, u64), RecordFault> {
+        read_u64(bytes, place)
+    }
+}
+
 impl Read<InSnapshot> for Peer {
     ghost at = { peer_at };
 
     #[tactic(auto, unfolding(crate::specs::Readings::peer_at))]
-    fn read(_alloc: Global, bytes: &[u8], place: u64) -> Result<(Peer, u64), RecordFault> {
+    fn read(alloc: Global, bytes: &[u8], place: u64) -> Result<(Peer, u64), RecordFault> {
         let (next, place) = read_u64(bytes, place)?;
-        let (closed, place) = read_u64(bytes, place)?;
+        let (floor, place) = read_u64(bytes, place)?;
+        let (closed, place) = read_list(alloc, bytes, place)?;
         let (wait, place) = read_u64(bytes, place)?;
         let (stage_next, place) = read_u64(bytes, place)?;
         let (stage_got, place) = read_u64(bytes, place)?;
         let peer = Peer {
             next,
+            floor,
+            closed,
+            wait,
+            stage_next,
+            stage_got,
+        };
+        Ok((peer, place))
+    }
+}
+
+// The number alone, or nothing where it is 0.
+fn alone_above(alloc: Global, number: u64) -> Result<NumberList, AllocError>
+    ensures { IfOk result (λ numbers. numbers ≡ alone_above number) }
+{
+    let mut numbers = Vec::new(alloc);
+    if number == 0 {
+        return Ok(ListOf::from_vec(numbers));
+    }
+    numbers.push(number)?;
+    Ok(ListOf::from_vec(numbers))
+}
+
+/// The peers of version 1, which have one closed number each.
+impl Read<InOldSnapshot> for Peer {
+    ghost at = { old_peer_at };
+
+    #[tactic(auto, unfolding(crate::specs::Readings::old_peer_at))]
+    fn read(alloc: Global, bytes: &[u8], place: u64) -> Result<(Peer, u64), RecordFault> {
+        let (next, place) = read_u64(bytes, place)?;
+        let (number, place) = read_u64(bytes, place)?;
+        let (wait, place) = read_u64(bytes, place)?;
+        let (stage_next, place) = read_u64(bytes, place)?;
+        let (stage_got, place) = read_u64(bytes, place)?;
+        let closed = alone_above(alloc, number)?;
+        let peer = Peer {
+            next,
+            floor: number.saturating_sub(1),
             closed,
             wait,
             stage_next,

@@ -1,11 +1,16 @@
 //! The parts of a whole state, read at a place of bytes.
 
 ghost use Rattle.nqs_records.specs.Reading.{Answers};
+ghost use Rattle.nqs_snapshot.specs.Readings.{many_at, peer_at, old_peer_at};
 ghost use Rattle.nqs_snapshot.specs.Reading.{site_at, requests_at, dealings_at, counters_at, parts_at};
 
-use crate::lists::{InSnapshot, read_list, read_many};
+use crate::lists::{InOldSnapshot, InSnapshot, read_list, read_many};
 use crate::parts::{CounterPart, DealingPart, Parts, RequestPart, SitePart};
-use nqs_records::{Read, RecordFault, read_host, read_opt_name, read_u16, read_u32, read_u64};
+use nqs_records::{
+    Read, RecordFault, read_host, read_opt_name, read_u16, read_u32, read_u64, repeat,
+};
+use nqs_state::PeerList;
+use nqs_types::Peer;
 use std::alloc::Global;
 
 #[tactic(auto, unfolding(crate::specs::Reading::site_at))]
@@ -46,13 +51,11 @@ fn read_requests(alloc: Global, bytes: &[u8], place: u64) -> Result<(RequestPart
 fn read_dealings(alloc: Global, bytes: &[u8], place: u64) -> Result<(DealingPart, u64), RecordFault>
     ensures { Answers (dealings_at bytes.now place) result }
 {
-    let (peers, place) = read_list(alloc, bytes, place)?;
     let (stages, place) = read_many(alloc, bytes, place)?;
     let (files, place) = read_many(alloc, bytes, place)?;
     let (managers, place) = read_list(alloc, bytes, place)?;
     let (operators, place) = read_list(alloc, bytes, place)?;
     let part = DealingPart {
-        peers,
         stages,
         files,
         managers,
@@ -85,17 +88,47 @@ fn read_counters(bytes: &[u8], place: u64) -> Result<(CounterPart, u64), RecordF
 }
 
 impl Read<InSnapshot> for Parts {
-    ghost at = { parts_at };
+    ghost at = { parts_at peer_at };
 
     #[tactic(auto, unfolding(crate::specs::Reading::parts_at))]
     fn read(alloc: Global, bytes: &[u8], place: u64) -> Result<(Parts, u64), RecordFault> {
         let (site, place) = read_site(alloc, bytes, place)?;
         let (requests, place) = read_requests(alloc, bytes, place)?;
+        let (peers, place) = read_many(alloc, bytes, place)?;
         let (dealings, place) = read_dealings(alloc, bytes, place)?;
         let (counters, place) = read_counters(bytes, place)?;
         let parts = Parts {
             site,
             requests,
+            peers,
+            dealings,
+            counters,
+        };
+        Ok((parts, place))
+    }
+}
+
+fn read_old_peers(alloc: Global, bytes: &[u8], place: u64) -> Result<(PeerList, u64), RecordFault>
+    ensures { Answers (many_at old_peer_at bytes.now place) result }
+{
+    let (count, next) = read_u64(bytes, place)?;
+    repeat::<InOldSnapshot, Peer>(alloc, bytes, next, count)
+}
+
+impl Read<InOldSnapshot> for Parts {
+    ghost at = { parts_at old_peer_at };
+
+    #[tactic(auto, unfolding(crate::specs::Reading::parts_at))]
+    fn read(alloc: Global, bytes: &[u8], place: u64) -> Result<(Parts, u64), RecordFault> {
+        let (site, place) = read_site(alloc, bytes, place)?;
+        let (requests, place) = read_requests(alloc, bytes, place)?;
+        let (peers, place) = read_old_peers(alloc, bytes, place)?;
+        let (dealings, place) = read_dealings(alloc, bytes, place)?;
+        let (counters, place) = read_counters(bytes, place)?;
+        let parts = Parts {
+            site,
+            requests,
+            peers,
             dealings,
             counters,
         };

@@ -5,7 +5,7 @@ ghost use Rattle.std.specs.List.{AllByRecursion};
 ghost use Rattle.nqs_state.specs.State.{content};
 ghost use Rattle.nqs_base.specs.Name.{IsName};
 ghost use Rattle.nqs_rules.specs.InOrder.{IsInOrder};
-ghost use Rattle.nqs_records.specs.Values.{IsU16, IsOpt};
+ghost use Rattle.nqs_records.specs.Values.{IsU16, IsU64, IsOpt};
 ghost use Rattle.nqs_snapshot.specs.Values.{IsMany, IsAccess, IsLimits, IsComplex, IsDevice, IsPeer, MayStand, MayStandCounters};
 ghost use Rattle.nqs_snapshot.specs.Typed.{IsTypedDest, AreTypedSettings, IsTypedQueue, IsTypedRefused, IsTypedCourse, IsTypedRow};
 ghost use Rattle.nqs_snapshot.specs.Typed.{IsTypedHand, IsTypedPromise, IsTypedStage, IsTypedFile, IsTypedSite, AreTypedRequests, AreTypedDealings};
@@ -194,12 +194,21 @@ impl Typed for Promise {
     }
 }
 
+impl Typed for u64 {
+    ghost IsTyped = { IsU64 };
+
+    fn stands(&self) {
+        number_stands(*self);
+    }
+}
+
 impl Typed for Peer {
     ghost IsTyped = { IsPeer };
 
     fn stands(&self) {
         number_stands(self.next);
-        number_stands(self.closed);
+        number_stands(self.floor);
+        list_stands(self.closed.as_slice());
         number_stands(self.wait);
         number_stands(self.stage_next);
         number_stands(self.stage_got);

@@ -49,7 +49,6 @@ fn put_dealings(state: &HostState, out: &mut Vec<u8>) -> Result<(), Memory>
     requires files { AllByRecursion (λ f. IsTrue (is_path f.path)) state.now.files.items }
     ensures { Adds out.old.items (dealing_part (content state.now)) result out.new.items }
 {
-    put_list(state.peers.as_slice(), out)?;
     put_table(&state.stages, out)?;
     put_table(&state.files, out)?;
     put_list(state.managers.as_slice(), out)?;
@@ -69,13 +68,14 @@ fn put_counters(state: &HostState, out: &mut Vec<u8>) -> Result<(), Memory>
     put_u64(state.file_next, out)
 }
 
-#[tactic(auto, using(crate::proofs::Joined::joined), unfolding(crate::specs::Spelling::state_field))]
+#[tactic(auto, using(crate::proofs::Joined::joined), unfolding(crate::specs::Spelling::state_by))]
 fn put_state(state: &HostState, out: &mut Vec<u8>) -> Result<(), Memory>
     requires { IsInOrder (content state.now) }
     ensures { Adds out.old.items (state_field (content state.now)) result out.new.items }
 {
     put_site(state, out)?;
     put_requests(state, out)?;
+    put_list(state.peers.as_slice(), out)?;
     put_dealings(state, out)?;
     put_counters(state, out)
 }

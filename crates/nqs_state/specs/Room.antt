@@ -1,5 +1,5 @@
 -- The room that a change needs, so that making it takes no memory.
-use Rattle.std.specs.Prelude.{ℕ, ◌<◌, ◌≤◌, length, Option, None, Some, find}
+use Rattle.std.specs.Prelude.{ℕ, ◌<◌, ◌≤◌, length, Option, None, Some, find, slice_get}
 use Rattle.nqs_state.specs.Keys.{is_queue, is_complex, is_row, is_hand}
 use Rattle.nqs_types.specs.declared.queue.Access.{Access}
 use Rattle.nqs_types.specs.declared.queue.Access.TheVariants.{All, Users}
@@ -7,10 +7,13 @@ use Rattle.nqs_types.specs.declared.queue.QueueDef.{QueueDef}
 use Rattle.nqs_types.specs.declared.queue.ComplexDef.{ComplexDef}
 use Rattle.nqs_types.specs.declared.request.Row.{Row}
 use Rattle.nqs_types.specs.declared.request.Hand.{Hand}
+use Rattle.nqs_types.specs.declared.request.Peer.{Peer}
+use Rattle.nqs_types.specs.declared.ids.HostId.{HostId}
 use Rattle.nqs_base.specs.declared.extent.Extent.{Extent}
 use Rattle.nqs_state.specs.declared.state.HostState.{HostState}
 use Rattle.nqs_types.specs.declared.change.Change.{Change}
-use Rattle.nqs_types.specs.declared.change.Change.TheVariants.{Submitted, Ended, Edited, HandOpened, HandRefused, Promised, Accepted, RefusedLocal, StageGot}
+use Rattle.nqs_types.specs.declared.change.Change.TheVariants.{Submitted, Ended, Edited, HandOpened, HandRefused, OldPromised, Promised, Accepted, Dropped}
+use Rattle.nqs_types.specs.declared.change.Change.TheVariants.{RefusedLocal, StageGot}
 use Rattle.nqs_types.specs.declared.edit.Edit.{Edit}
 use Rattle.nqs_types.specs.declared.edit.Edit.TheVariants.{Conf, Limits as LimitsOf, Access as AccessOf, Devices as DevicesOf, Rows as RowsOf}
 use Rattle.nqs_types.specs.declared.edit.ConfEdit.{ConfEdit}
@@ -59,6 +62,15 @@ abbrev pub hand_refusals : Option Hand → HostState → ℕ
 hand_refusals None h = 0
 hand_refusals (Some hand) h = refusals_of (find (is_row hand.id) h.rows.items)
 
+-- how many closed numbers of a peer are kept apart
+abbrev pub closed_of : Option Peer → ℕ
+closed_of None = 0
+closed_of (Some p) = length p.closed
+
+-- a list of closed numbers of the peer may become longer by one
+abbrev pub HasRoomToClose : HostId → HostState → Type 0
+HasRoomToClose peer h = closed_of (slice_get h.peers peer.0) < h.spare_closed
+
 -- there is room for what an edit of queues adds
 abbrev pub HasRoomForConf : ConfEdit → HostState → Type 0
 HasRoomForConf (CreateBatchQueue _ _ _ _) h = 0 < h.queues.spare
@@ -101,8 +113,10 @@ HasRoom (Ended id parts) h = (length parts ≤ h.files.spare) × (length parts �
 HasRoom (Edited e) h = HasRoomForEdit e h
 HasRoom (HandOpened _ _ _ _ _) h = 0 < h.hands.spare
 HasRoom (HandRefused peer number _) h = hand_refusals (find (is_hand (record { peer = peer; number = number })) h.hands.items) h < h.spare_refused
-HasRoom (Promised _ _ _ _ _) h = 0 < h.promises.spare
-HasRoom (Accepted _ _) h = 0 < h.rows.spare
+HasRoom (OldPromised _ _ _ _ _) h = 0 < h.promises.spare
+HasRoom (Promised _ _ _ _ _ _) h = 0 < h.promises.spare
+HasRoom (Accepted peer _) h = (0 < h.rows.spare) × HasRoomToClose peer h
+HasRoom (Dropped peer _) h = HasRoomToClose peer h
 HasRoom (RefusedLocal id _ _) h = refusals_of (find (is_row id) h.rows.items) < h.spare_refused
 HasRoom (StageGot _ _ _ _) h = 0 < h.files.spare
 HasRoom _ h = Unit {0}

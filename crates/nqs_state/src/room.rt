@@ -1,17 +1,19 @@
 //! Room for a change, made before the change is written anywhere, so that making it can't fail for
 //! want of memory.
 
-ghost use Rattle.std.specs.Prelude.{◌≡◌, ℕ, ◌<◌, ◌≤◌, OnOk, find};
+ghost use Rattle.std.specs.Prelude.{◌≡◌, ℕ, ◌<◌, ◌≤◌, OnOk, find, slice_get};
 ghost use Rattle.nqs_state.specs.State.{content};
 ghost use Rattle.nqs_state.specs.Keys.{is_queue, is_complex, is_row, is_hand};
-ghost use Rattle.nqs_state.specs.Room.{HasRoom, HasRoomForEdit, HasRoomForConf, HasRoomForLimits, HasRoomForAccess, HasRoomForDevices, users_of, dests_of};
-ghost use Rattle.nqs_state.specs.Room.{devices_of, members_of, refusals_of, hand_refusals};
+ghost use Rattle.nqs_state.specs.Room.{HasRoom, HasRoomToClose};
+ghost use Rattle.nqs_state.specs.Room.{HasRoomForEdit, HasRoomForConf, HasRoomForLimits, HasRoomForAccess, HasRoomForDevices, users_of, dests_of};
+ghost use Rattle.nqs_state.specs.Room.{devices_of, members_of, refusals_of, hand_refusals, closed_of};
 ghost use Rattle.nqs_types.specs.declared.ids.PeerNumber.{PeerNumber};
 
 use crate::state::HostState;
 use nqs_base::{Memory, Name};
 use nqs_types::{
-    Access, AccessEdit, Change, ConfEdit, DevicesEdit, Edit, LimitsEdit, PeerNumber, RequestId,
+    Access, AccessEdit, Change, ConfEdit, DevicesEdit, Edit, HostId, LimitsEdit, PeerNumber,
+    RequestId,
 };
 
 impl HostState {
@@ -73,6 +75,27 @@ impl HostState {
             Some(hand) => self.refusal_count(&hand.id),
             None => 0,
         }
+    }
+
+    // How many closed numbers of the peer are kept apart.
+    fn closed_count(&self, peer: HostId) -> usize
+        ensures { result ≡ closed_of (slice_get self.now.peers peer.0) }
+    {
+        match self.peers.as_slice().get(peer.0 as usize) {
+            Some(known) => known.closed.len(),
+            None => 0,
+        }
+    }
+
+    // Makes room for one closed number more of the peer.
+    fn make_room_to_close(&mut self, peer: HostId) -> Result<(), Memory>
+        ensures content { content self.new ≡ content self.old }
+        ensures rows { self.new.rows ≡ self.old.rows }
+        ensures room { OnOk result (HasRoomToClose peer self.new) }
+    {
+        let count = self.closed_count(peer);
+        self.spare_closed.reserve(count)?;
+        Ok(())
     }
 
     fn make_room_for_conf(&mut self, edit: &ConfEdit) -> Result<(), Memory>
@@ -183,8 +206,13 @@ impl HostState {
                 let count = self.hand_refusal_count(&key);
                 self.spare_refused.reserve(count)?;
             }
+            Change::OldPromised { .. } => self.promises.reserve(1)?,
             Change::Promised { .. } => self.promises.reserve(1)?,
-            Change::Accepted { .. } => self.rows.reserve(1)?,
+            Change::Accepted { peer, .. } => {
+                self.rows.reserve(1)?;
+                self.make_room_to_close(*peer)?;
+            }
+            Change::Dropped { peer, .. } => self.make_room_to_close(*peer)?,
             Change::RefusedLocal { id, .. } => {
                 let count = self.refusal_count(id);
                 self.spare_refused.reserve(count)?;

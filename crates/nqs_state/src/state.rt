@@ -1,7 +1,7 @@
 //! All that a host holds.
 
 use crate::rows::Rows;
-use nqs_base::{ListOf, Name, NameList, Spare};
+use nqs_base::{Items, Name, NameList, Spare};
 use nqs_base_tables::Table;
 use nqs_types::{
     ComplexDef, Dest, DeviceDef, FileOut, Hand, HostId, Peer, PeerNumber, Promise, QueueDef,
@@ -9,7 +9,7 @@ use nqs_types::{
 };
 
 /// What a host knows of each host of its site, in the site's order.
-pub type PeerList = ListOf<Peer>;
+pub type PeerList = Items<Peer>;
 
 /// All that a host holds. Contracts see its `content`, and beside it the room that it has.
 pub struct HostState {
@@ -46,6 +46,8 @@ pub struct HostState {
     pub spare_dests: Spare<Dest>,
     /// Memory for the growth of a request's list of refusals.
     pub spare_refused: Spare<Refused>,
+    /// Memory for the growth of a peer's list of closed numbers.
+    pub spare_closed: Spare<u64>,
 }
 
 // Written out, so that a host's state is let go by a call: a derived drop is a part of each
@@ -76,6 +78,7 @@ impl Drop for HostState {
             spare_names: _,
             spare_dests: _,
             spare_refused: _,
+            spare_closed: _,
         } = self;
     }
 }

@@ -30,10 +30,11 @@ fn on_message(
     match body {
         Body::Offer {
             number,
+            low,
             queue,
             carried,
             script,
-        } => on_offer(alloc, state, peer, *number, queue, carried, script),
+        } => on_offer(alloc, state, peer, *number, *low, queue, carried, script),
         Body::Ready { number } => on_ready(alloc, state, peer, *number),
         Body::Refused { number, cause } => on_refused(alloc, state, peer, *number, *cause),
         Body::Commit { number } => on_commit(alloc, state, peer, *number),

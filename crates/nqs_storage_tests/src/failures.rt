@@ -74,7 +74,7 @@ fn set(disks: &mut Disks<MemDisk>, which: Which, alone: bool, call: u64)
     }
 }
 
-fn torn(disks: Disks<MemDisk>, tear: Tear) -> Result<Disks<MemDisk>, Lack>
+pub(crate) fn torn(disks: Disks<MemDisk>, tear: Tear) -> Result<Disks<MemDisk>, Lack>
     ensures { IfOk result (λ disks. (which : OneOf) → IsQuiet (history_of (disk_at which disks))) }
 {
     let Disks {

@@ -25,7 +25,7 @@ const SCRIPT: &[u8] = b"echo done\n";
 // started something, how many requests there are then, and whether the node is stopped.
 type Seen = ([bool; 2], [Option<bool>; 3], usize, bool);
 
-fn empty_disks(alloc: Global) -> Disks<MemDisk>
+pub(crate) fn empty_disks(alloc: Global) -> Disks<MemDisk>
     ensures { (which : Which) → history_of_disk (disk_at which result) ≡ record { start = []; calls = [] } }
 {
     Disks {

@@ -13,9 +13,21 @@ const SUBMITTED: &[u8] = b"\x02\x01b\x01j\x02me\x3f\x00\x00\x00\x00\x00\x00\x01\
 \x01\x00\x00\x00\x00\x00\x00\x00\x09\x00\x01\x03a4x\x01o\x03d/e\x00\
 \x00\x00\x00\x00\x00\x00\x00\x07\x00\x00\x80\x00";
 
-static RECORDS: [&[u8]; 14] = [
+// A promise to the host 1: of its number 2, while its 1 is still open.
+const PROMISED: &[u8] = b"\x18\x01\x00\x00\x00\x00\x00\x00\x00\x02\x00\x00\x00\x00\x00\x00\x00\x01\
+\x01q\x00\x00\x00\x01\x01\x01j\x01m\x00\x00\x00\x00\x00\x00\x00\x00\x00\x00\x00\x00\x00\x01o\x01e\x00\
+\x00\x02\x00\x02\x20\x00\x00\x00\x00\x00\x00\x00\x07\x00\x00\x80\x00";
+
+// A promise as older versions wrote it, of the number 9.
+const OLD_PROMISED: &[u8] = b"\x0f\x01\x00\x00\x00\x00\x00\x00\x00\x09\
+\x01q\x00\x00\x00\x01\x01\x01j\x01m\x00\x00\x00\x00\x00\x00\x00\x00\x00\x00\x00\x00\x00\x01o\x01e\x00\
+\x00\x02\x00\x02\x20\x00\x00\x00\x00\x00\x00\x00\x07\x00\x00\x80\x00";
+
+static RECORDS: [&[u8]; 17] = [
     SITE,
     SUBMITTED,
+    PROMISED,
+    OLD_PROMISED,
     b"\x03\x00\x00\x00\x01\x0f",
     b"\x05\xff\xff\xff\xfe\x00\x01\x03lp1",
     b"\x06\x00\x00\x00\x02\x01\x01\x01o\x00\x00\x00\x00\x00\x00\x00\x00\x00\x00\x00\x05",
@@ -23,6 +35,7 @@ static RECORDS: [&[u8]; 14] = [
     b"\x09\x04\x01b",
     b"\x09\x03\x01p\x01\x00\x00\x00\x00\x00\x00\x00\x3f\x00\x01\x00\x00\x00\x00\x00\x00\x00\x01\x01\x01q\x01h",
     b"\x09\x28",
+    b"\x09\x36\x01b\x05alpha\x01p",
     b"\x09\x2e\x00\x00\x00\x07\x05alpha\x00\x00\x00\x00\x00\x00\x00\x05",
     b"\x0a\x02\x00\x00\x00\x00\x00\x00\x00\x01\x00\x00\x00\x03\x00\x01q\x00\x00\x00\x00\x00\x00\x01\x00",
     b"\x0d\x00\x00\x00\x00\x00\x00\x00\x3c\x02\x00\x00\x00\x00\x00\x00\x00\x00\x01\x01\x00\x00\x00\x00\x00\x00\x00\x02",
@@ -100,6 +113,31 @@ fn reads_the_parts(rt: HostRuntime) {
     assert_eq!(rt; (reads_site(alloc), reads_submission(alloc)), (true, true));
 }
 
+// The number of a promise, and its low where it has one.
+fn numbers(change: &Change) -> Option<(u64, Option<u64>)> {
+    match change {
+        Change::Promised { number, low, .. } => Some((*number, Some(*low))),
+        Change::OldPromised { number, .. } => Some((*number, None)),
+        _ => None,
+    }
+}
+
+fn read_numbers(alloc: Global, bytes: &[u8]) -> Option<(u64, Option<u64>)> {
+    match &read_change(alloc, bytes) {
+        Ok(change) => numbers(change),
+        Err(_) => None,
+    }
+}
+
+#[test]
+fn reads_promises(rt: HostRuntime) {
+    let read = (
+        read_numbers(rt.alloc(), PROMISED),
+        read_numbers(rt.alloc(), OLD_PROMISED),
+    );
+    assert_eq!(rt; read, (Some((2, Some(1))), Some((9, None))));
+}
+
 // The kinds of faults.
 const SHORT: u8 = 0;
 
@@ -128,10 +166,11 @@ fn fault(alloc: Global, bytes: &[u8]) -> Option<(u8, u64)> {
 }
 
 // Bytes that are no record: the kind and the place of their first fault.
-static FAULTS: [(&[u8], u8, u64); 17] = [
+static FAULTS: [(&[u8], u8, u64); 18] = [
     (b"", SHORT, 0),
     (b"\x00", KIND, 0),
-    (b"\x18", KIND, 0),
+    (b"\x18", SHORT, 1),
+    (b"\x19", KIND, 0),
     (b"\x01\x00\x01\x05alph", SHORT, 8),
     (b"\x01\x10\x01\x05alpha", FIELD, 1),
     (b"\x01\x01\x01\x05alpha", FIELD, 2),
@@ -156,9 +195,11 @@ fn finds_the_first_fault(rt: HostRuntime) {
 }
 
 // Values past their limits.
-static PAST_LIMITS: [(&[u8], u8, u64); 8] = [
+static PAST_LIMITS: [(&[u8], u8, u64); 17] = [
     (b"\x09\x00", FIELD, 1),
     (b"\x09\x2f\x01b", FIELD, 1),
+    (b"\x09\x35\x01b", FIELD, 1),
+    (b"\x09\x37\x01b", FIELD, 1),
     (b"\x09\x0b\x00\x00\x00\x00\x00\x00\x00\x40\x01b", FIELD, 2),
     (
         b"\x09\x01\x01b\x01\x00\x00\x00\x00\x00\x00\x00\x40\x00\x00",
@@ -182,6 +223,39 @@ static PAST_LIMITS: [(&[u8], u8, u64); 8] = [
 \x00\x00\x00\x00\x00\x00\x00\x00\x00\x00\x00\x00\x00\x01o\x01e\x00\x00\x02\x00\x02\x21",
         FIELD,
         43,
+    ),
+    // A promise without its low, one of the number 0 with the lows 0 and 1, and one of the number 2
+    // with the lows 0, 2, 3 and the greatest: that of 2 lacks its queue alone.
+    (b"\x18\x01\x00\x00\x00\x00\x00\x00\x00\x02", SHORT, 10),
+    (
+        b"\x18\x01\x00\x00\x00\x00\x00\x00\x00\x00\x00\x00\x00\x00\x00\x00\x00\x00",
+        FIELD,
+        10,
+    ),
+    (
+        b"\x18\x01\x00\x00\x00\x00\x00\x00\x00\x00\x00\x00\x00\x00\x00\x00\x00\x01",
+        FIELD,
+        10,
+    ),
+    (
+        b"\x18\x01\x00\x00\x00\x00\x00\x00\x00\x02\x00\x00\x00\x00\x00\x00\x00\x00",
+        FIELD,
+        10,
+    ),
+    (
+        b"\x18\x01\x00\x00\x00\x00\x00\x00\x00\x02\x00\x00\x00\x00\x00\x00\x00\x02",
+        SHORT,
+        18,
+    ),
+    (
+        b"\x18\x01\x00\x00\x00\x00\x00\x00\x00\x02\x00\x00\x00\x00\x00\x00\x00\x03",
+        FIELD,
+        10,
+    ),
+    (
+        b"\x18\x01\x00\x00\x00\x00\x00\x00\x00\x02\xff\xff\xff\xff\xff\xff\xff\xff",
+        FIELD,
+        10,
     ),
 ];
 

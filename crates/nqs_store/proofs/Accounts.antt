@@ -18,7 +18,8 @@ use Rattle.nqs_types.specs.declared.request.Promise.{Promise}
 use Rattle.nqs_types.specs.declared.request.FileOut.{FileOut}
 use Rattle.nqs_types.specs.declared.change.Change.{Change}
 use Rattle.nqs_types.specs.declared.change.Change.TheVariants.{Site, Submitted, Deleted, Doomed, Started, Ended, Unlaunched, Boot, Edited, HandOpened}
-use Rattle.nqs_types.specs.declared.change.Change.TheVariants.{HandCommitted, HandRefused, HandsSilent, HandDone, Promised, Accepted, Dropped, MovedLocal}
+use Rattle.nqs_types.specs.declared.change.Change.TheVariants.{HandCommitted, HandRefused, HandsSilent, HandDone, OldPromised, Promised, Accepted, Dropped}
+use Rattle.nqs_types.specs.declared.change.Change.TheVariants.{MovedLocal}
 use Rattle.nqs_types.specs.declared.change.Change.TheVariants.{RefusedLocal, HeldFar, StageGot, StageGone, FileGone}
 use Rattle.nqs_types.specs.declared.edit.Edit.{Edit}
 use Rattle.nqs_types.specs.declared.edit.Edit.TheVariants.{Conf, Limits as LimitsOf, Access as AccessOf, Devices as DevicesOf, Rows as RowsOf}
@@ -43,7 +44,8 @@ use Rattle.nqs_rules.specs.Devices.{devices_applied}
 use Rattle.nqs_rules.specs.Rows.{doomed_in, held_row, released_row, moved_row, with_priority, change_meant, next_arrival, rows_applied}
 use Rattle.nqs_rules.specs.Routing.{close, held_where, refusal_noted, dests_for}
 use Rattle.nqs_rules.specs.Applied.{doomed_row, started_row, may_start_again, lost_row, booted_row, routing_row, requeued_row, hand_committed, hand_refused}
-use Rattle.nqs_rules.specs.Applied.{hand_silent, hands_silent, is_promise_of, accepted, moved_local, local_refused, held_far, access_applied, edit_applied}
+use Rattle.nqs_rules.specs.Applied.{hand_silent, hands_silent, is_outlived, promises_from, promised, accepted, moved_local, local_refused, held_far}
+use Rattle.nqs_rules.specs.Applied.{access_applied, edit_applied}
 use Rattle.nqs_rules.specs.Applied.{applied, drop_hand, drop_promise}
 use Rattle.nqs_rules.specs.Stepped.{stored_parts}
 use Rattle.nqs_rules.proofs.ListFacts.{map-changed}
@@ -51,7 +53,7 @@ use Rattle.nqs_rules.proofs.FindKept.{map-kept}
 use Rattle.nqs_store.specs.Told.{Host}
 use Rattle.nqs_store.specs.Live.{row_part, promise_part, stage_part, file_part, output_parts, live}
 use Rattle.nqs_store.specs.Accounts.{Adds, Takes, IsRearranged}
-use Rattle.nqs_store.specs.Frees.{part_of, goes_at_boot, row_of_hand, doubled, gone}
+use Rattle.nqs_store.specs.Frees.{part_of, goes_at_boot, row_of_hand, doubled, outlived, gone}
 use Rattle.nqs_store.proofs.Extents.{with_behind, with_before, adds-behind, adds-before, adds-end, takes-behind, takes-before, takes-end, takes-append}
 use Rattle.nqs_store.proofs.Extents.{in_order, moved, filter_takes, first_takes}
 use Rattle.nqs_store.proofs.Outputs.{outputs}
@@ -238,13 +240,13 @@ submitted_accounted queue job script s =
       order = in_order _ _ (ap (λ l. l ++ rest) (sym (map-append row_part s.rows _)));
     }
 
-promised_accounted : (peer : HostId) (number : ℕ) (queue : List ℕ) (c : Carried) (script : Extent) (s : Host)
-    → AreAccounted (live s) (live (applied (Promised peer number queue c script) s)) (script ∷ []) (gone (Promised peer number queue c script) s)
-promised_accounted peer number queue c script s =
+promised_accounted : (peer : HostId) (number low : ℕ) (queue : List ℕ) (c : Carried) (script : Extent) (s : Host)
+    → AreAccounted (live s) (live (promised peer number low queue c script s)) (script ∷ []) (outlived peer low s)
+promised_accounted peer number low queue c script s =
     let front = map row_part s.rows in
     let ps = map promise_part s.promises in
-    let kept = map promise_part (filter (λ p. not (is_promise_of peer p)) s.promises) in
-    let taken = map promise_part (filter (is_promise_of peer) s.promises) in
+    let kept = map promise_part (promises_from peer low s.promises) in
+    let taken = map promise_part (filter (is_outlived peer low) s.promises) in
     let outs = output_parts s in
     record {
       more = front ++ ((ps ++ script ∷ []) ++ outs);
@@ -253,8 +255,8 @@ promised_accounted peer number queue c script s =
           (adds-behind ps (script ∷ []) (ps ++ script ∷ []) outs (adds-end ps (script ∷ [])));
       takes = takes-before front ((ps ++ script ∷ []) ++ outs) taken ((kept ++ script ∷ []) ++ outs)
           (takes-behind (ps ++ script ∷ []) taken (kept ++ script ∷ []) outs
-          (takes-behind ps taken kept (script ∷ []) (filter_takes promise_part (is_promise_of peer) s.promises)));
-      order = in_order _ _ (ap (λ l. front ++ (l ++ outs)) (sym (map-append promise_part (filter (λ p. not (is_promise_of peer p)) s.promises) _)));
+          (takes-behind ps taken kept (script ∷ []) (filter_takes promise_part (is_outlived peer low) s.promises)));
+      order = in_order _ _ (ap (λ l. front ++ (l ++ outs)) (sym (map-append promise_part (promises_from peer low s.promises) _)));
     }
 
 ended_accounted : (id : RequestId) (parts : List (Rattle.nqs_types.specs.declared.change.OutPart.OutPart Extent)) (s : Host)
@@ -341,7 +343,8 @@ accounted (HandCommitted peer number) s fine = committed_accounted (peer_number 
 accounted (HandRefused peer number refusal) s fine = refused_accounted (peer_number peer number) refusal (find_hand peer number s) s
 accounted (HandsSilent until hands) s fine = same s (hands_silent until hands s) (sym (silent_live until hands s))
 accounted (HandDone peer number) s fine = same s (applied (HandDone peer number) s) refl
-accounted (Promised peer number queue c script) s fine = promised_accounted peer number queue c script s
+accounted (OldPromised peer number queue c script) s fine = promised_accounted peer number number queue c script s
+accounted (Promised peer number low queue c script) s fine = promised_accounted peer number low queue c script s
 accounted (Accepted peer number) s fine = accepted_accounted (peer_number peer number) (find_promise peer number s) s refl
 accounted (Dropped peer number) s fine =
     let k = peer_number peer number in

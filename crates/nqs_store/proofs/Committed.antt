@@ -6,7 +6,8 @@ use Rattle.nqs_base.specs.Extents.{extent_bytes}
 use Rattle.nqs_base.specs.declared.extent.Extent.{Extent}
 use Rattle.nqs_types.specs.declared.change.Change.{Change}
 use Rattle.nqs_types.specs.declared.change.Change.TheVariants.{Site, Submitted, Deleted, Doomed, Started, Ended, Unlaunched, Boot, Edited, HandOpened}
-use Rattle.nqs_types.specs.declared.change.Change.TheVariants.{HandCommitted, HandRefused, HandsSilent, HandDone, Promised, Accepted, Dropped, MovedLocal}
+use Rattle.nqs_types.specs.declared.change.Change.TheVariants.{HandCommitted, HandRefused, HandsSilent, HandDone, OldPromised, Promised, Accepted, Dropped}
+use Rattle.nqs_types.specs.declared.change.Change.TheVariants.{MovedLocal}
 use Rattle.nqs_types.specs.declared.change.Change.TheVariants.{RefusedLocal, HeldFar, StageGot, StageGone, FileGone}
 use Rattle.nqs_outside.specs.History.{History, content, moment, EachSince}
 use Rattle.nqs_outside.specs.declared.disk.Disk as disk
@@ -78,8 +79,10 @@ taken_some (HandRefused peer number refusal) host fine = by (applied (HandRefuse
     (fits {F = Extent} (HandRefused peer number refusal) host) fine
 taken_some (HandsSilent until hands) host fine = by (applied (HandsSilent until hands) host) (fits {F = Extent} (HandsSilent until hands) host) fine
 taken_some (HandDone peer number) host fine = by (applied (HandDone peer number) host) (fits {F = Extent} (HandDone peer number) host) fine
-taken_some (Promised peer number queue c script) host fine = by (applied (Promised peer number queue c script) host)
-    (fits {F = Extent} (Promised peer number queue c script) host) fine
+taken_some (OldPromised peer number queue c script) host fine = by (applied (OldPromised peer number queue c script) host)
+    (fits {F = Extent} (OldPromised peer number queue c script) host) fine
+taken_some (Promised peer number low queue c script) host fine = by (applied (Promised peer number low queue c script) host)
+    (fits {F = Extent} (Promised peer number low queue c script) host) fine
 taken_some (Accepted peer number) host fine = by (applied (Accepted peer number) host) (fits {F = Extent} (Accepted peer number) host) fine
 taken_some (Dropped peer number) host fine = by (applied (Dropped peer number) host) (fits {F = Extent} (Dropped peer number) host) fine
 taken_some (MovedLocal id queue) host fine = by (applied (MovedLocal id queue) host) (fits {F = Extent} (MovedLocal id queue) host) fine
@@ -111,7 +114,7 @@ module _ {D : Type 0} {g : disk.Ghosts D} (tells_all : IsTrue g.tells) (old : St
   plain_kept image keeps = plain_same (extent_bytes image) (extent_bytes was) host (λ x has. (keeps x (extent_bytes was x) has (held x has)).same)
 
   pub told_before : (images : Which → List ℕ) → is_second (images Root) ≡ old.on_second
-      → StandsBy (images (journal_on old.on_second)) is_told.has is_told.snapshot is_told.payloads → Keeps host was (images Spool)
+      → StandsBy (images (journal_on old.on_second)) is_told.version is_told.snapshot is_told.payloads → Keeps host was (images Spool)
       → IsTold images (plain_of old host)
   told_before images named stands keeps = record {
     host = host;
@@ -128,8 +131,8 @@ module _ {D : Type 0} {g : disk.Ghosts D} (tells_all : IsTrue g.tells) (old : St
   named_image image leaves = ap is_second (sym (only_image (history_of old Root) image is_told.root leaves)) ∙ is_told.named
 
   pub stands_image : (image : List ℕ) → IsImage (state (history_of old (journal_on old.on_second))) image
-      → StandsBy image is_told.has is_told.snapshot is_told.payloads
-  stands_image image leaves = subst (λ b. StandsBy b is_told.has is_told.snapshot is_told.payloads)
+      → StandsBy image is_told.version is_told.snapshot is_told.payloads
+  stands_image image leaves = subst (λ b. StandsBy b is_told.version is_told.snapshot is_told.payloads)
       (only_image (history_of old (journal_on old.on_second)) image (active_quiet old host is_told) leaves) (active_stands old host is_told)
 
   -- nothing is pending on any disk
@@ -165,8 +168,8 @@ module _ {D : Type 0} {g : disk.Ghosts D} (tells_all : IsTrue g.tells) (old : St
     pub plain_now : map_state (extent_bytes bytes) (applied now host) ≡ applied (filled change puts) (plain_of old host)
     plain_now = applied-map (extent_bytes bytes) now host ∙ (λ j. applied (filled_now j) (plain_kept bytes p.still j))
 
-    pub records_now : told_by is_told.has is_told.snapshot (is_told.payloads ++ text ∷ []) ≡ Some (applied now host)
-    records_now = told_by_more is_told.has is_told.snapshot is_told.payloads host text is_told.records ∙ ap (λ r. read_taken r (Some host)) p.done.read
+    pub records_now : told_by is_told.version is_told.snapshot (is_told.payloads ++ text ∷ []) ≡ Some (applied now host)
+    records_now = told_by_more is_told.version is_told.snapshot is_told.payloads host text is_told.records ∙ ap (λ r. read_taken r (Some host)) p.done.read
         ∙ taken_some now host fine_now
 
     within_now : AllByRecursion (λ x. past x ≤ length bytes) (live (applied now host))
@@ -179,15 +182,15 @@ module _ {D : Type 0} {g : disk.Ghosts D} (tells_all : IsTrue g.tells) (old : St
     apart_now = account.order.apart (takes_apart account.more (gone now host) account.fewer account.takes put_tells.live.apart)
 
     pub told_after : (images : Which → List ℕ) → is_second (images Root) ≡ old.on_second
-        → StandsBy (images (journal_on old.on_second)) is_told.has is_told.snapshot (is_told.payloads ++ text ∷ []) → images Spool ≡ bytes
+        → StandsBy (images (journal_on old.on_second)) is_told.version is_told.snapshot (is_told.payloads ++ text ∷ []) → images Spool ≡ bytes
         → IsTold images (applied (filled change puts) (plain_of old host))
     told_after images named stands spool = record {
       host = applied now host;
       is = record {
-        has = is_told.has;
+        version = is_told.version;
         snapshot = is_told.snapshot;
         payloads = is_told.payloads ++ text ∷ [];
-        stands = subst (λ b. StandsBy (images (journal_on b)) is_told.has is_told.snapshot (is_told.payloads ++ text ∷ [])) (sym named) stands;
+        stands = subst (λ b. StandsBy (images (journal_on b)) is_told.version is_told.snapshot (is_told.payloads ++ text ∷ [])) (sym named) stands;
         tells = records_now;
         sound = subst (λ b. AreSound (length b) (live (applied now host))) (sym spool) (record { apart = apart_now; within = within_now });
       };
@@ -215,7 +218,7 @@ module _ {D : Type 0} {g : disk.Ghosts D} (tells_all : IsTrue g.tells) (old : St
 
     -- what images of the journal tell, where the spool has the bytes
     pub one_of : (images : Which → List ℕ) → IsImage (state (history_of old Root)) (images Root) → IsImage (state (spool.history_of mid)) (images Spool)
-        → BeforeOrAfter (front_of is_told.has is_told.snapshot) is_told.payloads text (images (journal_on old.on_second))
+        → BeforeOrAfter (front_of is_told.version is_told.snapshot) is_told.payloads text (images (journal_on old.on_second))
         → TellsOneOf (plain_of old host) (applied (filled change puts) (plain_of old host)) images
     one_of images root spool (inl before) = inl (told_before images (named_image (images Root) root) (is_told.is, before)
         (subst (Keeps host was) (sym (spool_image (images Spool) spool)) p.still))
@@ -224,7 +227,7 @@ module _ {D : Type 0} {g : disk.Ghosts D} (tells_all : IsTrue g.tells) (old : St
     -- moments of the append
     pub append_moments : (f' : History) (calls : List Call)
         → f' ≡ extended (with_disk Spool (spool.history_of mid) (history_of old) (journal_on old.on_second)) calls
-        → EachSince (moment (history_of old (journal_on old.on_second))) f' (BeforeOrAfter (front_of is_told.has is_told.snapshot) is_told.payloads text)
+        → EachSince (moment (history_of old (journal_on old.on_second))) f' (BeforeOrAfter (front_of is_told.version is_told.snapshot) is_told.payloads text)
         → Moments (with_disk Spool (spool.history_of mid) (history_of old)) (on (journal_on old.on_second) calls)
         (TellsOneOf (plain_of old host) (applied (filled change puts) (plain_of old host)))
     append_moments f' calls did any =

@@ -7,7 +7,8 @@ use Rattle.nqs_base.specs.declared.extent.Extent.{Extent}
 use Rattle.nqs_types.specs.declared.change.OutPart.{OutPart}
 use Rattle.nqs_types.specs.declared.change.Change.{Change}
 use Rattle.nqs_types.specs.declared.change.Change.TheVariants.{Site, Submitted, Deleted, Doomed, Started, Ended, Unlaunched, Boot, Edited, HandOpened}
-use Rattle.nqs_types.specs.declared.change.Change.TheVariants.{HandCommitted, HandRefused, HandsSilent, HandDone, Promised, Accepted, Dropped, MovedLocal}
+use Rattle.nqs_types.specs.declared.change.Change.TheVariants.{HandCommitted, HandRefused, HandsSilent, HandDone, OldPromised, Promised, Accepted, Dropped}
+use Rattle.nqs_types.specs.declared.change.Change.TheVariants.{MovedLocal}
 use Rattle.nqs_types.specs.declared.change.Change.TheVariants.{RefusedLocal, HeldFar, StageGot, StageGone, FileGone}
 use Rattle.nqs_rules.specs.Fits.{fits}
 use Rattle.nqs_rules.specs.Filled.{filled, filled_parts}
@@ -94,7 +95,8 @@ with_back (HandCommitted peer number) xs = refl
 with_back (HandRefused peer number cause) xs = refl
 with_back (HandsSilent until hands) xs = refl
 with_back (HandDone peer number) xs = refl
-with_back (Promised peer number queue c script) xs = refl
+with_back (OldPromised peer number queue c script) xs = refl
+with_back (Promised peer number low queue c script) xs = refl
 with_back (Accepted peer number) xs = refl
 with_back (Dropped peer number) xs = refl
 with_back (MovedLocal id queue) xs = refl
@@ -121,7 +123,8 @@ shape_kept (HandCommitted peer number) xs = refl
 shape_kept (HandRefused peer number cause) xs = refl
 shape_kept (HandsSilent until hands) xs = refl
 shape_kept (HandDone peer number) xs = refl
-shape_kept (Promised peer number queue c script) xs = refl
+shape_kept (OldPromised peer number queue c script) xs = refl
+shape_kept (Promised peer number low queue c script) xs = refl
 shape_kept (Accepted peer number) xs = refl
 shape_kept (Dropped peer number) xs = refl
 shape_kept (MovedLocal id queue) xs = refl
@@ -148,7 +151,8 @@ fits_kept (HandCommitted peer number) xs s = refl
 fits_kept (HandRefused peer number cause) xs s = refl
 fits_kept (HandsSilent until hands) xs s = refl
 fits_kept (HandDone peer number) xs s = refl
-fits_kept (Promised peer number queue c script) xs s = refl
+fits_kept (OldPromised peer number queue c script) xs s = refl
+fits_kept (Promised peer number low queue c script) xs s = refl
 fits_kept (Accepted peer number) xs s = refl
 fits_kept (Dropped peer number) xs s = refl
 fits_kept (MovedLocal id queue) xs s = refl
@@ -182,7 +186,8 @@ stands_kept (HandCommitted peer number) xs right fine = right
 stands_kept (HandRefused peer number cause) xs right fine = right
 stands_kept (HandsSilent until hands) xs right fine = right
 stands_kept (HandDone peer number) xs right fine = right
-stands_kept (Promised peer number queue c script) xs right fine = (right.0, right.1, right.2, right.3, one_stands script xs right.4 fine)
+stands_kept (OldPromised peer number queue c script) xs right fine = (right.0, right.1, right.2, right.3, one_stands script xs right.4 fine)
+stands_kept (Promised peer number low queue c script) xs right fine = (right.0, right.1, right.2, right.3, one_stands script xs right.4 fine)
 stands_kept (Accepted peer number) xs right fine = right
 stands_kept (Dropped peer number) xs right fine = right
 stands_kept (MovedLocal id queue) xs right fine = right
@@ -209,7 +214,8 @@ stored (HandCommitted peer number) xs many = no_parts xs many
 stored (HandRefused peer number cause) xs many = no_parts xs many
 stored (HandsSilent until hands) xs many = no_parts xs many
 stored (HandDone peer number) xs many = no_parts xs many
-stored (Promised peer number queue c script) xs many = one_stored script xs many
+stored (OldPromised peer number queue c script) xs many = one_stored script xs many
+stored (Promised peer number low queue c script) xs many = one_stored script xs many
 stored (Accepted peer number) xs many = no_parts xs many
 stored (Dropped peer number) xs many = no_parts xs many
 stored (MovedLocal id queue) xs many = no_parts xs many
@@ -237,7 +243,8 @@ filled_shape_kept (HandCommitted peer number) puts many = refl
 filled_shape_kept (HandRefused peer number cause) puts many = refl
 filled_shape_kept (HandsSilent until hands) puts many = refl
 filled_shape_kept (HandDone peer number) puts many = refl
-filled_shape_kept (Promised peer number queue c script) puts many = refl
+filled_shape_kept (OldPromised peer number queue c script) puts many = refl
+filled_shape_kept (Promised peer number low queue c script) puts many = refl
 filled_shape_kept (Accepted peer number) puts many = refl
 filled_shape_kept (Dropped peer number) puts many = refl
 filled_shape_kept (MovedLocal id queue) puts many = refl
@@ -264,7 +271,8 @@ filled_bytes (HandCommitted peer number) puts many = no_parts puts many
 filled_bytes (HandRefused peer number cause) puts many = no_parts puts many
 filled_bytes (HandsSilent until hands) puts many = no_parts puts many
 filled_bytes (HandDone peer number) puts many = no_parts puts many
-filled_bytes (Promised peer number queue c script) puts many = one_put puts script many
+filled_bytes (OldPromised peer number queue c script) puts many = one_put puts script many
+filled_bytes (Promised peer number low queue c script) puts many = one_put puts script many
 filled_bytes (Accepted peer number) puts many = no_parts puts many
 filled_bytes (Dropped peer number) puts many = no_parts puts many
 filled_bytes (MovedLocal id queue) puts many = no_parts puts many

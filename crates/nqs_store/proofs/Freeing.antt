@@ -11,7 +11,8 @@ use Rattle.nqs_types.specs.declared.request.Carried.{Carried}
 use Rattle.nqs_types.specs.declared.edit.Edit.{Edit}
 use Rattle.nqs_types.specs.declared.change.Change.{Change}
 use Rattle.nqs_types.specs.declared.change.Change.TheVariants.{Site, Submitted, Deleted, Doomed, Started, Ended, Unlaunched, Boot, Edited, HandOpened}
-use Rattle.nqs_types.specs.declared.change.Change.TheVariants.{HandCommitted, HandRefused, HandsSilent, HandDone, Promised, Accepted, Dropped, MovedLocal}
+use Rattle.nqs_types.specs.declared.change.Change.TheVariants.{HandCommitted, HandRefused, HandsSilent, HandDone, OldPromised, Promised, Accepted, Dropped}
+use Rattle.nqs_types.specs.declared.change.Change.TheVariants.{MovedLocal}
 use Rattle.nqs_types.specs.declared.change.Change.TheVariants.{RefusedLocal, HeldFar, StageGot, StageGone, FileGone}
 use Rattle.nqs_store.specs.Told.{Host}
 use Rattle.nqs_store.specs.Frees.{gone}
@@ -100,33 +101,37 @@ module _ (host : Host) where
       → (change ≡ Boot → ⊥)
       → ((e : Edit) → change ≡ Edited e → ⊥)
       → ((peer : HostId) (number : ℕ) → change ≡ HandCommitted peer number → ⊥)
-      → ((peer : HostId) (number : ℕ) (queue : List ℕ) (carried : Carried) (script : Extent) → change ≡ Promised peer number queue carried script → ⊥)
+      → ((peer : HostId) (number : ℕ) (queue : List ℕ) (carried : Carried) (script : Extent) → change ≡ OldPromised peer number queue carried script → ⊥)
+      → ((peer : HostId) (number low : ℕ) (queue : List ℕ) (carried : Carried) (script : Extent)
+      → change ≡ Promised peer number low queue carried script → ⊥)
       → ((peer : HostId) (number : ℕ) → change ≡ Accepted peer number → ⊥)
       → ((peer : HostId) (number : ℕ) → change ≡ Dropped peer number → ⊥)
       → ((peer : HostId) (number : ℕ) (path : List ℕ) (bytes : Extent) → change ≡ StageGot peer number path bytes → ⊥)
       → ((peer : HostId) (number : ℕ) → change ≡ StageGone peer number → ⊥)
       → ((file : ℕ) → change ≡ FileGone file → ⊥)
       → gone change host ≡ []
-  nothing_gone (Deleted id) n0 n1 n2 n3 n4 n5 n6 n7 n8 n9 n10 n11 = absurd (n0 id refl)
-  nothing_gone (Ended id parts) n0 n1 n2 n3 n4 n5 n6 n7 n8 n9 n10 n11 = absurd (n1 id parts refl)
-  nothing_gone (Unlaunched id) n0 n1 n2 n3 n4 n5 n6 n7 n8 n9 n10 n11 = absurd (n2 id refl)
-  nothing_gone Boot n0 n1 n2 n3 n4 n5 n6 n7 n8 n9 n10 n11 = absurd (n3 refl)
-  nothing_gone (Edited e) n0 n1 n2 n3 n4 n5 n6 n7 n8 n9 n10 n11 = absurd (n4 e refl)
-  nothing_gone (HandCommitted peer number) n0 n1 n2 n3 n4 n5 n6 n7 n8 n9 n10 n11 = absurd (n5 peer number refl)
-  nothing_gone (Promised peer number queue carried script) n0 n1 n2 n3 n4 n5 n6 n7 n8 n9 n10 n11 = absurd (n6 peer number queue carried script refl)
-  nothing_gone (Accepted peer number) n0 n1 n2 n3 n4 n5 n6 n7 n8 n9 n10 n11 = absurd (n7 peer number refl)
-  nothing_gone (Dropped peer number) n0 n1 n2 n3 n4 n5 n6 n7 n8 n9 n10 n11 = absurd (n8 peer number refl)
-  nothing_gone (StageGot peer number path bytes) n0 n1 n2 n3 n4 n5 n6 n7 n8 n9 n10 n11 = absurd (n9 peer number path bytes refl)
-  nothing_gone (StageGone peer number) n0 n1 n2 n3 n4 n5 n6 n7 n8 n9 n10 n11 = absurd (n10 peer number refl)
-  nothing_gone (FileGone file) n0 n1 n2 n3 n4 n5 n6 n7 n8 n9 n10 n11 = absurd (n11 file refl)
-  nothing_gone (Site me site) n0 n1 n2 n3 n4 n5 n6 n7 n8 n9 n10 n11 = refl
-  nothing_gone (Submitted queue job script) n0 n1 n2 n3 n4 n5 n6 n7 n8 n9 n10 n11 = refl
-  nothing_gone (Doomed id) n0 n1 n2 n3 n4 n5 n6 n7 n8 n9 n10 n11 = refl
-  nothing_gone (Started id device) n0 n1 n2 n3 n4 n5 n6 n7 n8 n9 n10 n11 = refl
-  nothing_gone (HandOpened peer number id queue since) n0 n1 n2 n3 n4 n5 n6 n7 n8 n9 n10 n11 = refl
-  nothing_gone (HandRefused peer number refusal) n0 n1 n2 n3 n4 n5 n6 n7 n8 n9 n10 n11 = refl
-  nothing_gone (HandsSilent until hands) n0 n1 n2 n3 n4 n5 n6 n7 n8 n9 n10 n11 = refl
-  nothing_gone (HandDone peer number) n0 n1 n2 n3 n4 n5 n6 n7 n8 n9 n10 n11 = refl
-  nothing_gone (MovedLocal id queue) n0 n1 n2 n3 n4 n5 n6 n7 n8 n9 n10 n11 = refl
-  nothing_gone (RefusedLocal id queue refusal) n0 n1 n2 n3 n4 n5 n6 n7 n8 n9 n10 n11 = refl
-  nothing_gone (HeldFar id) n0 n1 n2 n3 n4 n5 n6 n7 n8 n9 n10 n11 = refl
+  nothing_gone (Deleted id) n0 n1 n2 n3 n4 n5 n6 n7 n8 n9 n10 n11 n12 = absurd (n0 id refl)
+  nothing_gone (Ended id parts) n0 n1 n2 n3 n4 n5 n6 n7 n8 n9 n10 n11 n12 = absurd (n1 id parts refl)
+  nothing_gone (Unlaunched id) n0 n1 n2 n3 n4 n5 n6 n7 n8 n9 n10 n11 n12 = absurd (n2 id refl)
+  nothing_gone Boot n0 n1 n2 n3 n4 n5 n6 n7 n8 n9 n10 n11 n12 = absurd (n3 refl)
+  nothing_gone (Edited e) n0 n1 n2 n3 n4 n5 n6 n7 n8 n9 n10 n11 n12 = absurd (n4 e refl)
+  nothing_gone (HandCommitted peer number) n0 n1 n2 n3 n4 n5 n6 n7 n8 n9 n10 n11 n12 = absurd (n5 peer number refl)
+  nothing_gone (OldPromised peer number queue carried script) n0 n1 n2 n3 n4 n5 n6 n7 n8 n9 n10 n11 n12 = absurd (n6 peer number queue carried script refl)
+  nothing_gone (Promised peer number low queue carried script) n0 n1 n2 n3 n4 n5 n6 n7 n8 n9 n10 n11 n12 =
+      absurd (n7 peer number low queue carried script refl)
+  nothing_gone (Accepted peer number) n0 n1 n2 n3 n4 n5 n6 n7 n8 n9 n10 n11 n12 = absurd (n8 peer number refl)
+  nothing_gone (Dropped peer number) n0 n1 n2 n3 n4 n5 n6 n7 n8 n9 n10 n11 n12 = absurd (n9 peer number refl)
+  nothing_gone (StageGot peer number path bytes) n0 n1 n2 n3 n4 n5 n6 n7 n8 n9 n10 n11 n12 = absurd (n10 peer number path bytes refl)
+  nothing_gone (StageGone peer number) n0 n1 n2 n3 n4 n5 n6 n7 n8 n9 n10 n11 n12 = absurd (n11 peer number refl)
+  nothing_gone (FileGone file) n0 n1 n2 n3 n4 n5 n6 n7 n8 n9 n10 n11 n12 = absurd (n12 file refl)
+  nothing_gone (Site me site) n0 n1 n2 n3 n4 n5 n6 n7 n8 n9 n10 n11 n12 = refl
+  nothing_gone (Submitted queue job script) n0 n1 n2 n3 n4 n5 n6 n7 n8 n9 n10 n11 n12 = refl
+  nothing_gone (Doomed id) n0 n1 n2 n3 n4 n5 n6 n7 n8 n9 n10 n11 n12 = refl
+  nothing_gone (Started id device) n0 n1 n2 n3 n4 n5 n6 n7 n8 n9 n10 n11 n12 = refl
+  nothing_gone (HandOpened peer number id queue since) n0 n1 n2 n3 n4 n5 n6 n7 n8 n9 n10 n11 n12 = refl
+  nothing_gone (HandRefused peer number refusal) n0 n1 n2 n3 n4 n5 n6 n7 n8 n9 n10 n11 n12 = refl
+  nothing_gone (HandsSilent until hands) n0 n1 n2 n3 n4 n5 n6 n7 n8 n9 n10 n11 n12 = refl
+  nothing_gone (HandDone peer number) n0 n1 n2 n3 n4 n5 n6 n7 n8 n9 n10 n11 n12 = refl
+  nothing_gone (MovedLocal id queue) n0 n1 n2 n3 n4 n5 n6 n7 n8 n9 n10 n11 n12 = refl
+  nothing_gone (RefusedLocal id queue refusal) n0 n1 n2 n3 n4 n5 n6 n7 n8 n9 n10 n11 n12 = refl
+  nothing_gone (HeldFar id) n0 n1 n2 n3 n4 n5 n6 n7 n8 n9 n10 n11 n12 = refl

@@ -4,12 +4,14 @@ use Rattle.nqs_base.specs.declared.extent.Extent.{Extent}
 use Rattle.nqs_types.specs.declared.change.OutPart.{OutPart}
 use Rattle.nqs_types.specs.declared.change.Change.{Change}
 use Rattle.nqs_types.specs.declared.change.Change.TheVariants.{Site, Submitted, Deleted, Doomed, Started, Ended, Unlaunched, Boot, Edited, HandOpened}
-use Rattle.nqs_types.specs.declared.change.Change.TheVariants.{HandCommitted, HandRefused, HandsSilent, HandDone, Promised, Accepted, Dropped, MovedLocal}
+use Rattle.nqs_types.specs.declared.change.Change.TheVariants.{HandCommitted, HandRefused, HandsSilent, HandDone, OldPromised, Promised, Accepted, Dropped}
+use Rattle.nqs_types.specs.declared.change.Change.TheVariants.{MovedLocal}
 use Rattle.nqs_types.specs.declared.change.Change.TheVariants.{RefusedLocal, HeldFar, StageGot, StageGone, FileGone}
 use Rattle.nqs_records.specs.Spelling.{extent_field, part_field}
 use Rattle.nqs_records.specs.Changes.{spelling}
 use Rattle.nqs_records.specs.Extents.{first_or, parts_with, with_extents}
-use Rattle.nqs_records.proofs.PutBack.{length-extent, length-part, submitted_front, submitted_ends, promised_front, promised_ends, got_front, got_ends}
+use Rattle.nqs_records.proofs.PutBack.{length-extent, length-part, submitted_front, submitted_ends, old_promised_front, old_promised_ends, promised_front}
+use Rattle.nqs_records.proofs.PutBack.{promised_ends, got_front, got_ends}
 use Rattle.nqs_records.proofs.PutBack.{ended_front, ended_ends, length-parts_with}
 
 ends_so : (front a b : List ℕ) (x y : Extent) → a ≡ front ++ extent_field x ++ [] → b ≡ front ++ extent_field y ++ [] → length a ≡ length b
@@ -68,8 +70,10 @@ same_length (HandCommitted peer number) xs = refl
 same_length (HandRefused peer number cause) xs = refl
 same_length (HandsSilent until hands) xs = refl
 same_length (HandDone peer number) xs = refl
-same_length (Promised peer number queue c script) xs = ends_so (promised_front peer number queue c) _ _ (first_or script xs) script
-    (promised_ends peer number queue c (first_or script xs)) (promised_ends peer number queue c script)
+same_length (OldPromised peer number queue c script) xs = ends_so (old_promised_front peer number queue c) _ _ (first_or script xs) script
+    (old_promised_ends peer number queue c (first_or script xs)) (old_promised_ends peer number queue c script)
+same_length (Promised peer number low queue c script) xs = ends_so (promised_front peer number low queue c) _ _ (first_or script xs) script
+    (promised_ends peer number low queue c (first_or script xs)) (promised_ends peer number low queue c script)
 same_length (Accepted peer number) xs = refl
 same_length (Dropped peer number) xs = refl
 same_length (MovedLocal id queue) xs = refl

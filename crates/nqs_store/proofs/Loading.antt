@@ -1,5 +1,5 @@
 -- Faults of a reading.
-use Rattle.std.proofs.Common.{◌≡◌, inl, inr, ℕ, Bool, List, length, Some, refl, subst}
+use Rattle.std.proofs.Common.{◌≡◌, inl, inr, ℕ, List, length, Some, refl, subst}
 use Rattle.nqs_types.specs.declared.world.Which.{Which}
 use Rattle.nqs_store.specs.Told.{Host, told_by}
 use Rattle.nqs_spool.specs.Extents.{IsBadExtent}
@@ -11,20 +11,20 @@ use Rattle.nqs_store.specs.declared.fault.LoadFault.{LoadFault}
 use Rattle.nqs_store.specs.declared.fault.LoadFault.TheVariants as load
 
 -- a bad record of the journal
-pub host_read : (on : Which) (has : Bool) (snapshot : List ℕ) (payloads : List (List ℕ)) (spool : List ℕ) (fault : LoadFault)
-    → IsHostFault on has snapshot payloads fault → IsReadFault on has snapshot payloads spool fault
-host_read on has snapshot payloads spool (load.Disk which) bad = absurd bad
-host_read on has snapshot payloads spool (load.NotNqs which place) bad = inl bad
-host_read on has snapshot payloads spool (load.Memory memory) bad = tt
+pub host_read : (on : Which) (version : ℕ) (snapshot : List ℕ) (payloads : List (List ℕ)) (spool : List ℕ) (fault : LoadFault)
+    → IsHostFault on version snapshot payloads fault → IsReadFault on version snapshot payloads spool fault
+host_read on version snapshot payloads spool (load.Disk which) bad = absurd bad
+host_read on version snapshot payloads spool (load.NotNqs which place) bad = inl bad
+host_read on version snapshot payloads spool (load.Memory memory) bad = tt
 
 -- a bad extent of the host that is told
-pub extent_read : (on : Which) (has : Bool) (snapshot : List ℕ) (payloads : List (List ℕ)) (spool : List ℕ) (size : ℕ) (host : Host) (fault : LoadFault)
-    → told_by has snapshot payloads ≡ Some host → size ≡ length spool → IsExtentFault size (live host) fault
-    → IsReadFault on has snapshot payloads spool fault
-extent_read on has snapshot payloads spool size host (load.Disk which) tells is bad = absurd bad
-extent_read on has snapshot payloads spool size host (load.NotNqs which place) tells is bad =
+pub extent_read : (on : Which) (version : ℕ) (snapshot : List ℕ) (payloads : List (List ℕ)) (spool : List ℕ) (size : ℕ) (host : Host) (fault : LoadFault)
+    → told_by version snapshot payloads ≡ Some host → size ≡ length spool → IsExtentFault size (live host) fault
+    → IsReadFault on version snapshot payloads spool fault
+extent_read on version snapshot payloads spool size host (load.Disk which) tells is bad = absurd bad
+extent_read on version snapshot payloads spool size host (load.NotNqs which place) tells is bad =
     inr (bad.0, (host, tells, subst (λ n. IsBadExtent n (live host) place) is bad.1))
-extent_read on has snapshot payloads spool size host (load.Memory memory) tells is bad = tt
+extent_read on version snapshot payloads spool size host (load.Memory memory) tells is bad = tt
 
 -- only a failed call of the journal's disk is a failed call of a host's disk
 pub journal_disk : (on : Which) (fault : JournalFault) (seen : LoadFault) (which : Which) → JournalIsAt on fault seen → seen ≡ load.Disk which

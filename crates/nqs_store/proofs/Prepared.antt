@@ -50,11 +50,11 @@ module _ {D : Type 0} {g : disk.Ghosts D} (old now : Store D g) (root : now.root
   -- what was told is told
   pub tells_same : (host : Host) → ((l : List Extent) → spool.Tells old.spool l → spool.Tells now.spool l) → Tells old host → Tells now host
   tells_same host room tells = record {
-    has = tells.has;
+    version = tells.version;
     snapshot = tells.snapshot;
     payloads = tells.payloads;
     is = tells.is;
-    journal = subst (λ j. journal.Tells j (front_of tells.has tells.snapshot) tells.payloads) (sym journal_path) tells.journal;
+    journal = subst (λ j. journal.Tells j (front_of tells.version tells.snapshot) tells.payloads) (sym journal_path) tells.journal;
     many = tells.many ∙ ap journal.count_of (sym journal_path);
     records = tells.records;
     named = ap (λ d. is_second (content (g.history d))) root ∙ tells.named ∙ sym on;

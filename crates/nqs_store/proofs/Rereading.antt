@@ -63,7 +63,7 @@ module _ {D : Type 0} {g : disk.Ghosts D} where
         → ((b : Bool) → journal.count_of (journal_in b now) ≡ journal.count_of (journal_in b old))
         → ((live : List Extent) → spool.Tells old.spool live → spool.Tells kept live) → (host : Host) → Tells old host → Tells now host
     tells_again same stays count holds host tells = record {
-      has = tells.has;
+      version = tells.version;
       snapshot = tells.snapshot;
       payloads = tells.payloads;
       is = tells.is;

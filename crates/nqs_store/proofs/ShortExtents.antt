@@ -6,7 +6,7 @@ use Rattle.nqs_base.specs.declared.extent.Extent.{Extent}
 use Rattle.nqs_base.proofs.Plain.{each_is, all_pass}
 use Rattle.nqs_types.specs.declared.change.OutPart.{OutPart}
 use Rattle.nqs_types.specs.declared.change.Change.{Change}
-use Rattle.nqs_types.specs.declared.change.Change.TheVariants.{Submitted, Ended, Promised, StageGot, Boot}
+use Rattle.nqs_types.specs.declared.change.Change.TheVariants.{Submitted, Ended, OldPromised, Promised, StageGot, Boot}
 use Rattle.nqs_rules.specs.Applied.{applied}
 use Rattle.nqs_rules.specs.Fits.{fits}
 use Rattle.nqs_rules.specs.Stepped.{part_bytes, stored_parts}
@@ -36,7 +36,8 @@ parts_short (part ∷ parts) stand = and_from (is_short_extent part.bytes) (list
 stored_short : (change : Change Extent) → MayStand change → list_all is_short_extent (stored_parts change) ≡ true
 stored_short (Submitted queue job script) stands = and_from (is_short_extent script) true stands.2.1 refl
 stored_short (Ended id parts) stands = parts_short parts stands.1.1
-stored_short (Promised peer number queue carried script) stands = and_from (is_short_extent script) true stands.4.1 refl
+stored_short (OldPromised peer number queue carried script) stands = and_from (is_short_extent script) true stands.4.1 refl
+stored_short (Promised peer number low queue carried script) stands = and_from (is_short_extent script) true stands.4.1 refl
 stored_short (StageGot peer number path bytes) stands = and_from (is_short_extent bytes) true stands.3.1 refl
 stored_short Boot stands = refl
 stored_short change stands = refl

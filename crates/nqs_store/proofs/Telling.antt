@@ -1,12 +1,14 @@
 -- What records tell, one after the other.
-use Rattle.std.proofs.Common.{◌≡◌, inl, inr, ℕ, ◌+◌, ◌≤◌, Bool, true, false, not, ◌||◌, IsTrue, List, [], ◌∷◌, ◌++◌, take, drop, take-append-drop, length}
+use Rattle.std.proofs.Common.{◌≡◌, ◌≢◌, inl, inr, ℕ, zero, suc, ◌+◌, ◌≤◌, true, false, not, ◌||◌, IsTrue, List, [], ◌∷◌, ◌++◌, take, drop}
+use Rattle.std.proofs.Common.{take-append-drop, length}
 use Rattle.std.proofs.Common.{length-append, slice_get, Option, Some}
 use Rattle.std.proofs.Common.{None, Ok, Err, is_some, refl, sym, ap, subst, ◌∙◌, arith, append_assoc}
 use Rattle.std.proofs.lemmas.Option.{none-some}
 use Rattle.nqs_base_tables.proofs.TableLemmas.{drop-at}
 use Rattle.nqs_journal.specs.Text.{header, records, frame}
 use Rattle.nqs_journal.proofs.Texts.{length-frame}
-use Rattle.nqs_journal.proofs.Fronts.{length-front}
+use Rattle.nqs_journal.specs.Either.{front_of}
+use Rattle.nqs_journal.proofs.Fronts.{length-front_of}
 use Rattle.nqs_records.specs.Reading.{Read}
 use Rattle.nqs_records.specs.declared.fault.RecordFault.{RecordFault}
 use Rattle.nqs_snapshot.specs.Reading.{snapshot_of}
@@ -22,7 +24,7 @@ use Rattle.nqs_rules.proofs.KeyFacts.{any-before}
 use Rattle.nqs_rules.proofs.RowFacts.{same_id}
 use Rattle.std.proofs.lemmas.Bool.{or_left, or_right}
 use Rattle.nqs_changes.specs.Running.{runs_in}
-use Rattle.nqs_store.specs.Told.{Host, record_taken, told, told_from, told_by, told_behind, IsBadFrom, IsUntoldBehind}
+use Rattle.nqs_store.specs.Told.{Host, record_taken, told, told_from, host_by, told_by, told_behind, IsBadFrom, IsUntoldBehind}
 use Rattle.nqs_store.specs.TellFaults.{IsRefused, IsTakenFault, IsTellFault}
 use Rattle.nqs_store.specs.declared.tell.TellFault.{TellFault}
 use Rattle.nqs_store.specs.declared.tell.TellFault.TheVariants.{Untold, Memory}
@@ -48,10 +50,10 @@ told_more so_far (p ∷ payloads) host payload is = by (record_taken p so_far) (
     by (Some h) more is = more h is
 
 -- the same behind either beginning of a journal
-pub told_by_more : (has : Bool) (snapshot : List ℕ) (payloads : List (List ℕ)) (host : Host) (payload : List ℕ) → told_by has snapshot payloads ≡ Some host
-    → told_by has snapshot (payloads ++ payload ∷ []) ≡ record_taken payload (Some host)
-told_by_more false snapshot payloads host payload is = told_more None payloads host payload is
-told_by_more true snapshot payloads host payload is = by (snapshot_of snapshot) is
+pub told_by_more : (version : ℕ) (snapshot : List ℕ) (payloads : List (List ℕ)) (host : Host) (payload : List ℕ) → told_by version snapshot payloads ≡ Some host
+    → told_by version snapshot (payloads ++ payload ∷ []) ≡ record_taken payload (Some host)
+told_by_more zero snapshot payloads host payload is = told_more None payloads host payload is
+told_by_more (suc more) snapshot payloads host payload is = by (host_by (suc more) snapshot) is
   where
     by : (read : Read Host) → told_behind read payloads ≡ Some host → told_behind read (payloads ++ payload ∷ []) ≡ record_taken payload (Some host)
     by (Ok first) is = told_more (Some first) payloads host payload is
@@ -123,7 +125,7 @@ pub told_first : (payloads : List (List ℕ)) (first : List ℕ) (later : List (
 told_first payloads first later host now is one rest = ap told is ∙ first_told first later host one ∙ rest
 
 pub bad_first : (payloads : List (List ℕ)) (first slice : List ℕ) (later : List (List ℕ)) (fault : TellFault) → slice ≡ first → payloads ≡ first ∷ later
-    → IsRefused 16 (record_taken slice None ≡ None) fault → IsTellFault false [] payloads fault
+    → IsRefused 16 (record_taken slice None ≡ None) fault → IsTellFault 0 [] payloads fault
 bad_first payloads first slice later (Untold place) same is bad = inr (record {
   before = [];
   payload = first;
@@ -136,7 +138,7 @@ bad_first payloads first slice later (Untold place) same is bad = inr (record {
 bad_first payloads first slice later (Memory memory) same is bad = tt
 
 pub bad_later : (payloads : List (List ℕ)) (first : List ℕ) (later : List (List ℕ)) (host : Host) (place : ℕ) (fault : TellFault) → payloads ≡ first ∷ later
-    → record_taken first None ≡ Some host → place ≡ 21 + length first → IsTakenFault host place later fault → IsTellFault false [] payloads fault
+    → record_taken first None ≡ Some host → place ≡ 21 + length first → IsTakenFault host place later fault → IsTellFault 0 [] payloads fault
 bad_later payloads first later host place (Untold at) is one stands bad = inr (record {
   before = first ∷ bad.before;
   payload = bad.payload;
@@ -157,20 +159,32 @@ bad_later payloads first later host place (Memory memory) is one stands bad = tt
 
 -- records behind a snapshot
 
-pub told_snapshot : (snapshot : List ℕ) (payloads : List (List ℕ)) (host now : Host) → snapshot_of snapshot ≡ Ok host
-    → told_from (Some host) payloads ≡ Some now → told_by true snapshot payloads ≡ Some now
-told_snapshot snapshot payloads host now reads rest = ap (λ r. told_behind r payloads) reads ∙ rest
+pub told_snapshot : (version : ℕ) (snapshot : List ℕ) (payloads : List (List ℕ)) (host now : Host) → version ≢ 0 → host_by version snapshot ≡ Ok host
+    → told_from (Some host) payloads ≡ Some now → told_by version snapshot payloads ≡ Some now
+told_snapshot zero snapshot payloads host now is_one reads rest = absurd (is_one refl)
+told_snapshot (suc more) snapshot payloads host now is_one reads rest = ap (λ r. told_behind r payloads) reads ∙ rest
 
-pub bad_snapshot : (snapshot : List ℕ) (payloads : List (List ℕ)) (fault : TellFault)
-    → IsRefused 24 ((why : RecordFault) × (snapshot_of snapshot ≡ Err why)) fault → IsTellFault true snapshot payloads fault
-bad_snapshot snapshot payloads (Untold place) bad = subst (λ r. IsUntoldBehind r snapshot payloads place) (sym bad.1.1) bad.0
-bad_snapshot snapshot payloads (Memory memory) bad = tt
+pub bad_snapshot : (version : ℕ) (snapshot : List ℕ) (payloads : List (List ℕ)) (fault : TellFault) → version ≢ 0
+    → IsRefused 24 ((why : RecordFault) × (host_by version snapshot ≡ Err why)) fault → IsTellFault version snapshot payloads fault
+bad_snapshot zero snapshot payloads (Untold place) is_one bad = absurd (is_one refl)
+bad_snapshot (suc more) snapshot payloads (Untold place) is_one bad =
+    subst (λ r. IsUntoldBehind r (length (front_of (suc more) snapshot)) payloads place) (sym bad.1.1) bad.0
+bad_snapshot version snapshot payloads (Memory memory) is_one bad = tt
 
-pub bad_behind : (snapshot : List ℕ) (payloads : List (List ℕ)) (host : Host) (place : ℕ) (fault : TellFault) → snapshot_of snapshot ≡ Ok host
-    → place ≡ 24 + length snapshot → IsTakenFault host place payloads fault → IsTellFault true snapshot payloads fault
-bad_behind snapshot payloads host place (Untold at) reads stands bad = subst (λ r. IsUntoldBehind r snapshot payloads at) (sym reads)
-    (subst (λ p. IsBadFrom host p payloads at) (stands ∙ sym (length-front snapshot)) bad)
-bad_behind snapshot payloads host place (Memory memory) reads stands bad = tt
+pub bad_behind : (version : ℕ) (snapshot : List ℕ) (payloads : List (List ℕ)) (host : Host) (place : ℕ) (fault : TellFault) → version ≢ 0
+    → host_by version snapshot ≡ Ok host → place ≡ 24 + length snapshot → IsTakenFault host place payloads fault → IsTellFault version snapshot payloads fault
+bad_behind zero snapshot payloads host place (Untold at) is_one reads stands bad = absurd (is_one refl)
+bad_behind (suc more) snapshot payloads host place (Untold at) is_one reads stands bad =
+    let front = length (front_of (suc more) snapshot) in
+    subst (λ r. IsUntoldBehind r front payloads at) (sym reads)
+    (subst (λ p. IsBadFrom host p payloads at) (stands ∙ sym (length-front_of (suc more) snapshot is_one)) bad)
+bad_behind version snapshot payloads host place (Memory memory) is_one reads stands bad = tt
+
+-- each version but the first has the spelling of today
+pub host_by_now : (version : ℕ) (snapshot : List ℕ) → version ≢ 1 → host_by version snapshot ≡ snapshot_of snapshot
+host_by_now zero snapshot other = refl
+host_by_now (suc zero) snapshot other = absurd (other refl)
+host_by_now (suc (suc more)) snapshot other = refl
 
 -- the requests that run
 

@@ -31,23 +31,23 @@ module _ {D : Type 0} {g : disk.Ghosts D} (store : Store D g) (host : Host) (tel
   active_quiet = subst IsQuiet active_history tells.journal.quiet
 
   -- its bytes stand by one of the forms
-  pub active_stands : StandsBy (content (history_of store (journal_on store.on_second))) tells.has tells.snapshot tells.payloads
+  pub active_stands : StandsBy (content (history_of store (journal_on store.on_second))) tells.version tells.snapshot tells.payloads
   active_stands = (
     tells.is,
-    subst (λ h. Rattle.nqs_journal.specs.Text.StandsAfter (Rattle.nqs_journal.specs.Either.front_of tells.has tells.snapshot)
+    subst (λ h. Rattle.nqs_journal.specs.Text.StandsAfter (Rattle.nqs_journal.specs.Either.front_of tells.version tells.snapshot)
         (content h) tells.payloads) active_history tells.journal.stands,
   )
 
   module _ (images : Which → List ℕ) (named : is_second (images Root) ≡ store.on_second)
-      (stands : StandsBy (images (journal_on store.on_second)) tells.has tells.snapshot tells.payloads) where
+      (stands : StandsBy (images (journal_on store.on_second)) tells.version tells.snapshot tells.payloads) where
     -- images whose root names the active journal, and in which it stands for the same, tell it
     -- where the spool's does
     pub told_host : Rattle.nqs_spool.specs.Extents.AreSound (length (images Spool)) (Rattle.nqs_store.specs.Live.live host) → IsToldHost images host
     told_host sound = record {
-      has = tells.has;
+      version = tells.version;
       snapshot = tells.snapshot;
       payloads = tells.payloads;
-      stands = subst (λ b. StandsBy (images (journal_on b)) tells.has tells.snapshot tells.payloads) (sym named) stands;
+      stands = subst (λ b. StandsBy (images (journal_on b)) tells.version tells.snapshot tells.payloads) (sym named) stands;
       tells = tells.records;
       sound = sound;
     }
@@ -55,7 +55,7 @@ module _ {D : Type 0} {g : disk.Ghosts D} (store : Store D g) (host : Host) (tel
     pub active_image : IsActive images (active_of store)
     active_image = record {
       named = named;
-      has = tells.has;
+      version = tells.version;
       snapshot = tells.snapshot;
       payloads = tells.payloads;
       stands = stands;
@@ -71,7 +71,7 @@ module _ {D : Type 0} {g : disk.Ghosts D} (store : Store D g) (host : Host) (tel
         (leaves (journal_on store.on_second)) in
         let spool = only_image (history_of store Spool) (images Spool) (tells.spool.quiet yes) (leaves Spool) in
         let named = ap is_second (sym root) ∙ tells.named in
-        let stands = subst (λ b. StandsBy b tells.has tells.snapshot tells.payloads) first active_stands in (
+        let stands = subst (λ b. StandsBy b tells.version tells.snapshot tells.payloads) first active_stands in (
           record {
             host = host;
             is = told_host images named stands (subst (λ b. Rattle.nqs_spool.specs.Extents.AreSound (length b) (Rattle.nqs_store.specs.Live.live host)) spool
@@ -85,7 +85,7 @@ module _ {D : Type 0} {g : disk.Ghosts D} (store : Store D g) (host : Host) (tel
 pub one_active : (bytes : Which → List ℕ) (a b : Active) → IsActive bytes a → IsActive bytes b → a ≡ b
 one_active bytes a b is is' =
     let same = sym is.named ∙ is'.named in
-    let read = one_reading (bytes (journal_of b)) is.has is'.has is.snapshot is'.snapshot is.payloads is'.payloads
-    (subst (λ s. StandsBy (bytes (journal_on s)) is.has is.snapshot is.payloads) same is.stands) is'.stands in
+    let read = one_reading (bytes (journal_of b)) is.version is'.version is.snapshot is'.snapshot is.payloads is'.payloads
+    (subst (λ s. StandsBy (bytes (journal_on s)) is.version is.snapshot is.payloads) same is.stands) is'.stands in
     let many = sym is.many ∙ ap length read.2 ∙ is'.many in
     λ j. record { second = same j; records = many j }

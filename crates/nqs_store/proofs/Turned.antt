@@ -184,7 +184,7 @@ module _ {D : Type 0} {g : disk.Ghosts D} (old now : Store D g) (text snapshot :
 
       pub turned_tells : now.on_second ≡ not old.on_second → snapshot_of snapshot ≡ Ok host → Tells old host → Tells now host
       turned_tells flipped reads tells = record {
-        has = true;
+        version = 2;
         snapshot = snapshot;
         payloads = [];
         is = is_text.small;

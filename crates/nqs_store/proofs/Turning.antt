@@ -128,28 +128,28 @@ module _ {D : Type 0} {g : disk.Ghosts D} (yes : IsTrue g.tells) (old : Store D 
   module _ (snapshot : List ℕ) (small : length snapshot < 2 ^ 64) (reads : snapshot_of snapshot ≡ Ok host) where
     -- where the root names the other journal, which begins with the snapshot, the same is told
     pub other_told : (images : Which → List ℕ) → is_second (images Root) ≡ not old.on_second
-        → StandsBy (images (journal_on (not old.on_second))) true snapshot [] → IsImage (state s) (images Spool)
+        → StandsBy (images (journal_on (not old.on_second))) 2 snapshot [] → IsImage (state s) (images Spool)
         → IsTold images (plain_of old host) × IsActive images (turned_to (active_of old))
     other_told images named stands spool = (
       record {
         host = host;
         is = record {
-          has = true;
+          version = 2;
           snapshot = snapshot;
           payloads = [];
-          stands = subst (λ b. StandsBy (images (journal_on b)) true snapshot []) (sym named) stands;
+          stands = subst (λ b. StandsBy (images (journal_on b)) 2 snapshot []) (sym named) stands;
           tells = ap (λ r. told_behind r []) reads;
           sound = sound_image (images Spool) spool;
         };
         bytes = bytes_image (images Spool) spool;
       },
-      record { named = named; has = true; snapshot = snapshot; payloads = []; stands = stands; many = refl },
+      record { named = named; version = 2; snapshot = snapshot; payloads = []; stands = stands; many = refl },
     )
 
     -- so whatever the root's image is, the state is told
     pub either_told : (images : Which → List ℕ)
         → IsImage (state (history_of old (journal_on old.on_second))) (images (journal_on old.on_second)) → IsImage (state s) (images Spool)
-        → StandsBy (images (journal_on (not old.on_second))) true snapshot []
+        → StandsBy (images (journal_on (not old.on_second))) 2 snapshot []
         → IsTold images (plain_of old host) × IsActive images (named_in (images Root) (active_of old))
     either_told images active spool stands = elim (named_or (is_second (images Root)) old.on_second) [
       | inl is ↦ (let told = active_told images is active spool in
@@ -162,8 +162,8 @@ module _ {D : Type 0} {g : disk.Ghosts D} (yes : IsTrue g.tells) (old : Store D 
       abbrev mid : Which → History
       mid = with_disk (journal_on (not old.on_second)) next (history_of old)
 
-      pub snapshot_stands : (image : List ℕ) → IsImage (state next) image → StandsBy image true snapshot []
-      snapshot_stands image leaves = subst (λ b. StandsBy b true snapshot []) (only_image next image opened.quiet leaves) (small, opened.stands)
+      pub snapshot_stands : (image : List ℕ) → IsImage (state next) image → StandsBy image 2 snapshot []
+      snapshot_stands image leaves = subst (λ b. StandsBy b 2 snapshot []) (only_image next image opened.quiet leaves) (small, opened.stands)
 
       -- moments of the root's calls
       pub root_moments : (k : History) (calls : List Call) → k ≡ extended (mid Root) calls

@@ -37,10 +37,10 @@ named_in root a = if (if a.second then is_second root else not (is_second root))
 -- The root names the journal, whose bytes stand by one of the forms for so many records.
 pub record IsActive (bytes : Which → List ℕ) (a : Active) : Type 0 where
   pub named : is_second (bytes Root) ≡ a.second
-  pub has : Bool
+  pub version : ℕ
   pub snapshot : List ℕ
   pub payloads : List (List ℕ)
-  pub stands : StandsBy (bytes (journal_of a)) has snapshot payloads
+  pub stands : StandsBy (bytes (journal_of a)) version snapshot payloads
   pub many : length payloads ≡ a.records
 
 -- bytes name one journal, and it has one number of records

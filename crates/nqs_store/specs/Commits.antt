@@ -63,12 +63,12 @@ IsSettled old calls which = (after (state (old which)) (part which calls)).range
 -- A journal has one record more: each image that it might leave stood by one of the forms for some
 -- payloads, and each that it may leave now stands for these and one more.
 pub record HasOneMore (was now : History) : Type 0 where
-  pub has : Bool
+  pub version : ℕ
   pub snapshot : List ℕ
   pub payloads : List (List ℕ)
   pub payload : List ℕ
-  pub before : (image : List ℕ) → IsImage (state was) image → StandsBy image has snapshot payloads
-  pub after : (image : List ℕ) → IsImage (state now) image → StandsBy image has snapshot (payloads ++ payload ∷ [])
+  pub before : (image : List ℕ) → IsImage (state was) image → StandsBy image version snapshot payloads
+  pub after : (image : List ℕ) → IsImage (state now) image → StandsBy image version snapshot (payloads ++ payload ∷ [])
 
 -- what the journal that a change's record goes to did before that record: what it did before, and
 -- the calls of a checkpoint

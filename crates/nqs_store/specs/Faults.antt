@@ -1,5 +1,5 @@
 -- What the faults of a store say.
-use Rattle.std.specs.Prelude.{◌≡◌, ◌⊎◌, ℕ, Bool, List, length, Some}
+use Rattle.std.specs.Prelude.{◌≡◌, ◌⊎◌, ℕ, List, length, Some}
 use Rattle.nqs_types.specs.declared.world.Which.TheVariants.{Root, First, Second, Spool}
 use Rattle.nqs_base.specs.Want.{want}
 use Rattle.nqs_base.specs.declared.extent.Extent.{Extent}
@@ -27,10 +27,10 @@ JournalIsAt which (journal.Memory memory) fault = fault ≡ load.Memory want
 
 -- why a snapshot, if there is one, and records tell no host, on the disk that they stand on; want
 -- of memory is free
-abbrev pub IsHostFault : Which → Bool → List ℕ → List (List ℕ) → LoadFault → Type 0
-IsHostFault on has snapshot payloads (load.Disk which) = ⊥
-IsHostFault on has snapshot payloads (load.NotNqs which place) = (which ≡ on) × IsUntoldBy has snapshot payloads place
-IsHostFault on has snapshot payloads (load.Memory memory) = Unit {0}
+abbrev pub IsHostFault : Which → ℕ → List ℕ → List (List ℕ) → LoadFault → Type 0
+IsHostFault on version snapshot payloads (load.Disk which) = ⊥
+IsHostFault on version snapshot payloads (load.NotNqs which place) = (which ≡ on) × IsUntoldBy version snapshot payloads place
+IsHostFault on version snapshot payloads (load.Memory memory) = Unit {0}
 
 -- why a spool of so many bytes can't have these extents
 abbrev pub IsExtentFault : ℕ → List Extent → LoadFault → Type 0
@@ -39,24 +39,24 @@ IsExtentFault size extents (load.NotNqs which place) = (which ≡ Spool) × IsBa
 IsExtentFault size extents (load.Memory memory) = Unit {0}
 
 -- the snapshot and the records tell a host, of whose extents one is bad
-abbrev pub IsSpoolFault : Bool → List ℕ → List (List ℕ) → List ℕ → ℕ → Type 0
-IsSpoolFault has snapshot payloads spool place =
-    (host : Host) × (told_by has snapshot payloads ≡ Some host) × IsBadExtent (length spool) (live host) place
+abbrev pub IsSpoolFault : ℕ → List ℕ → List (List ℕ) → List ℕ → ℕ → Type 0
+IsSpoolFault version snapshot payloads spool place =
+    (host : Host) × (told_by version snapshot payloads ≡ Some host) × IsBadExtent (length spool) (live host) place
 
 -- why a snapshot and records, on this disk, and a spool are no host's
-abbrev pub IsReadFault : Which → Bool → List ℕ → List (List ℕ) → List ℕ → LoadFault → Type 0
-IsReadFault on has snapshot payloads spool (load.Disk which) = which ≡ Spool
-IsReadFault on has snapshot payloads spool (load.NotNqs which place) =
-    ((which ≡ on) × IsUntoldBy has snapshot payloads place) ⊎ ((which ≡ Spool) × IsSpoolFault has snapshot payloads spool place)
-IsReadFault on has snapshot payloads spool (load.Memory memory) = Unit {0}
+abbrev pub IsReadFault : Which → ℕ → List ℕ → List (List ℕ) → List ℕ → LoadFault → Type 0
+IsReadFault on version snapshot payloads spool (load.Disk which) = which ≡ Spool
+IsReadFault on version snapshot payloads spool (load.NotNqs which place) =
+    ((which ≡ on) × IsUntoldBy version snapshot payloads place) ⊎ ((which ≡ Spool) × IsSpoolFault version snapshot payloads spool place)
+IsReadFault on version snapshot payloads spool (load.Memory memory) = Unit {0}
 
 -- why the bytes of a journal on this disk, and those of a spool, are no host's: the journal has
--- neither form from this place on, or what it stands for is at fault
+-- none of the forms from this place on, or what it stands for is at fault
 abbrev pub IsBytesFault : Which → (journal spool : List ℕ) → LoadFault → Type 0
 IsBytesFault on bytes spool fault =
     ((journal : JournalFault) × faults.IsEitherLoadFault bytes journal × JournalIsAt on journal fault)
-    ⊎ ((has : Bool) × (snapshot : List ℕ) × (payloads : List (List ℕ)) × StandsBy bytes has snapshot payloads
-    × IsReadFault on has snapshot payloads spool fault)
+    ⊎ ((version : ℕ) × (snapshot : List ℕ) × (payloads : List (List ℕ)) × StandsBy bytes version snapshot payloads
+    × IsReadFault on version snapshot payloads spool fault)
 
 -- Why the bytes of a host's disks are no host's: the root can't be read, or the journal that it
 -- names and the spool are at fault.

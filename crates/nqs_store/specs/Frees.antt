@@ -8,14 +8,15 @@ use Rattle.nqs_types.specs.declared.request.Promise.{Promise}
 use Rattle.nqs_types.specs.declared.request.Hand.{Hand}
 use Rattle.nqs_types.specs.declared.request.Peer.{Peer}
 use Rattle.nqs_types.specs.declared.change.Change.{Change}
-use Rattle.nqs_types.specs.declared.change.Change.TheVariants.{Deleted, Ended, Unlaunched, Boot, Edited, HandCommitted, Promised, Accepted, Dropped, StageGot}
+use Rattle.nqs_types.specs.declared.change.Change.TheVariants.{Deleted, Ended, Unlaunched, Boot, Edited, HandCommitted, OldPromised, Promised, Accepted}
+use Rattle.nqs_types.specs.declared.change.Change.TheVariants.{Dropped, StageGot}
 use Rattle.nqs_types.specs.declared.change.Change.TheVariants.{StageGone, FileGone}
 use Rattle.nqs_types.specs.declared.edit.Edit.TheVariants.{Conf}
 use Rattle.nqs_types.specs.declared.edit.ConfEdit.TheVariants.{PurgeQueue}
 use Rattle.nqs_rules.specs.Tests.{is_running, same_host, last_u64}
 use Rattle.nqs_rules.specs.Conf.{is_queued_in}
 use Rattle.nqs_rules.specs.Find.{peer_number, has_row, find_row, find_hand, find_promise, find_peer}
-use Rattle.nqs_rules.specs.Applied.{may_start_again, is_promise_of}
+use Rattle.nqs_rules.specs.Applied.{may_start_again, is_outlived}
 use Rattle.nqs_rules.specs.Stepped.{stored_parts}
 use Rattle.nqs_store.specs.Told.{Host}
 use Rattle.nqs_store.specs.Live.{row_part, promise_part, stage_part, file_part}
@@ -48,6 +49,10 @@ abbrev pub doubled : Host → Option (Promise Extent) → List Extent
 doubled host None = []
 doubled host (Some promise) = if has_row promise.row.id host then promise_part promise ∷ [] else []
 
+-- the scripts of promises that an offer with this low outlives: there may be several
+abbrev pub outlived : HostId → ℕ → Host → List Extent
+outlived peer low host = map promise_part (filter (is_outlived peer low) host.promises)
+
 -- what a change takes away of a host's extents, or doesn't take up of its own
 abbrev pub gone : Change Extent → Host → List Extent
 gone (Deleted id) host = part_of row_part (find_row id host)
@@ -56,7 +61,8 @@ gone (Unlaunched id) host = part_of row_part (find_row id host)
 gone Boot host = map row_part (filter goes_at_boot host.rows)
 gone (Edited (Conf (PurgeQueue queue))) host = map row_part (filter (is_queued_in queue) host.rows)
 gone (HandCommitted peer number) host = row_of_hand host (find_hand peer number host)
-gone (Promised peer number queue carried script) host = map promise_part (filter (is_promise_of peer) host.promises)
+gone (OldPromised peer number queue carried script) host = outlived peer number host
+gone (Promised peer number low queue carried script) host = outlived peer low host
 gone (Accepted peer number) host = doubled host (find_promise peer number host)
 gone (Dropped peer number) host = part_of promise_part (find_promise peer number host)
 gone (StageGot peer number path bytes) host = if nat_lt host.file_next last_u64 then [] else bytes ∷ []

@@ -1,5 +1,5 @@
 -- What images of a host's disks tell.
-use Rattle.std.specs.Prelude.{◌≡◌, ◌⊎◌, ℕ, Bool, List, length, Some}
+use Rattle.std.specs.Prelude.{◌≡◌, ◌⊎◌, ℕ, List, length, Some}
 use Rattle.nqs_base.specs.Extents.{extent_bytes}
 use Rattle.nqs_state.specs.State.{Plain}
 use Rattle.nqs_types.specs.declared.world.Which.{Which}
@@ -14,11 +14,11 @@ use Rattle.nqs_store.specs.Live.{live}
 -- The bytes of a journal tell this host by one of its forms, and its live extents are sound in the
 -- bytes of a spool.
 pub record AreRead (bytes spool : List ℕ) (host : Host) : Type 0 where
-  pub has : Bool
+  pub version : ℕ
   pub snapshot : List ℕ
   pub payloads : List (List ℕ)
-  pub stands : StandsBy bytes has snapshot payloads
-  pub tells : told_by has snapshot payloads ≡ Some host
+  pub stands : StandsBy bytes version snapshot payloads
+  pub tells : told_by version snapshot payloads ≡ Some host
   pub sound : AreSound (length spool) (live host)
 
 -- the journal that the root names and the spool tell this host

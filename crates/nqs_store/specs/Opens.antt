@@ -37,13 +37,13 @@ use Rattle.nqs_store.specs.Live.{live}
 module _ {D : Type 0} {g : disk.Ghosts D} where
   -- The journal and the spool are open, and tell this host.
   pub record AreOpened (j : Journal D g) (s : Spool D g) (host : Host) : Type 0 where
-    pub has : Bool
+    pub version : ℕ
     pub snapshot : List ℕ
     pub payloads : List (List ℕ)
-    pub is : IsSnapshot has snapshot
-    pub journal : journals.Tells j (front_of has snapshot) payloads
+    pub is : IsSnapshot version snapshot
+    pub journal : journals.Tells j (front_of version snapshot) payloads
     pub many : length payloads ≡ journals.count_of j
-    pub records : told_by has snapshot payloads ≡ Some host
+    pub records : told_by version snapshot payloads ≡ Some host
     pub spool : spool.Tells s (live host)
 
   -- A spool is opened with the set of its live extents, and the other journal is laid at rest; or

@@ -49,15 +49,15 @@ module _ {D E : Type 0} (g : disk.Ghosts D) where
 module _ {D : Type 0} (g : disk.Ghosts D) where
   -- The host that a snapshot, if there is one, and records of a journal on this disk tell, with the
   -- set of its live extents in a spool.
-  pub record ReadsHost (on : Which) (has : Bool) (snapshot : List ℕ) (payloads : List (List ℕ)) (old now : D)
+  pub record ReadsHost (on : Which) (version : ℕ) (snapshot : List ℕ) (payloads : List (List ℕ)) (old now : D)
       (result : Result (HostState × LiveExtents) LoadFault) : Type 0 where
     -- the host is told, and sound, and the set is that of its extents
-    pub host : IfOk result (λ r. (told_by has snapshot payloads ≡ Some (content r.0)) × IsSoundHost (content r.0) × Covers (kept r.1) (live (content r.0)))
+    pub host : IfOk result (λ r. (told_by version snapshot payloads ≡ Some (content r.0)) × IsSoundHost (content r.0) × Covers (kept r.1) (live (content r.0)))
     -- whatever the disk is, they end within 2^40 bytes, and no two meet
     pub extents : IfOk result (λ r. (size : ℕ) × (size ≤ 2 ^ 40) × AreSound size (live (content r.0))
         × (IsTrue g.tells → size ≡ length (bytes_now (g.history old))) × (end_of r.1 ≤ size))
     -- a refusal says what is at fault
-    pub fault : IsTrue g.tells → IfErr result (IsReadFault on has snapshot payloads (bytes_now (g.history old)))
+    pub fault : IsTrue g.tells → IfErr result (IsReadFault on version snapshot payloads (bytes_now (g.history old)))
     -- a failed read was of the spool
     pub failed : (which : Which) → IsErrOf result (load.Disk which) → (which ≡ SpoolDisk) × one.FailedToRead g old now
     -- the spool is only read

@@ -51,13 +51,13 @@ module _ {D : Type 0} {g : disk.Ghosts D} where
   -- The root names the active journal, whose records tell this host, and its live extents are those
   -- of the spool. Nothing is pending on any of the disks.
   pub record Tells (store : Store D g) (host : Host) : Type 0 where
-    pub has : Bool
+    pub version : ℕ
     pub snapshot : List ℕ
     pub payloads : List (List ℕ)
-    pub is : IsSnapshot has snapshot
-    pub journal : journal.Tells (journal_in store.on_second store) (front_of has snapshot) payloads
+    pub is : IsSnapshot version snapshot
+    pub journal : journal.Tells (journal_in store.on_second store) (front_of version snapshot) payloads
     pub many : length payloads ≡ (active_of store).records
-    pub records : told_by has snapshot payloads ≡ Some host
+    pub records : told_by version snapshot payloads ≡ Some host
     pub named : is_second (content (history_of store Root)) ≡ store.on_second
     pub root : IsQuiet (history_of store Root)
     pub rest : IsQuiet (history_of store (journal_on (not store.on_second)))

@@ -1,5 +1,5 @@
 -- Why a journal tells no host.
-use Rattle.std.specs.Prelude.{◌≡◌, ℕ, Bool, List}
+use Rattle.std.specs.Prelude.{◌≡◌, ℕ, List}
 use Rattle.nqs_store.specs.Told.{Host, IsBadFrom, IsUntoldBy}
 use Rattle.nqs_store.specs.declared.tell.TellFault.{TellFault}
 use Rattle.nqs_store.specs.declared.tell.TellFault.TheVariants.{Untold, Memory}
@@ -15,6 +15,6 @@ IsTakenFault host place payloads (Untold at) = IsBadFrom host place payloads at
 IsTakenFault host place payloads (Memory memory) = Unit {0}
 
 -- a snapshot, if there is one, and records tell no host
-abbrev pub IsTellFault : Bool → List ℕ → List (List ℕ) → TellFault → Type 0
-IsTellFault has snapshot payloads (Untold place) = IsUntoldBy has snapshot payloads place
-IsTellFault has snapshot payloads (Memory memory) = Unit {0}
+abbrev pub IsTellFault : ℕ → List ℕ → List (List ℕ) → TellFault → Type 0
+IsTellFault version snapshot payloads (Untold place) = IsUntoldBy version snapshot payloads place
+IsTellFault version snapshot payloads (Memory memory) = Unit {0}

@@ -15,10 +15,9 @@ use Rattle.nqs_rules.specs.Sane.{is_sane_change}
 use Rattle.nqs_records.specs.Changes.{MayStand}
 use Rattle.nqs_records.specs.Kinds.{record_of}
 use Rattle.nqs_records.specs.declared.fault.RecordFault.{RecordFault}
-use Rattle.nqs_snapshot.specs.Reading.{snapshot_of}
 use Rattle.nqs_store.specs.Sound.{IsSoundHost}
 use Rattle.nqs_store.specs.TellFaults.{IsRefused, IsTakenFault}
-use Rattle.nqs_store.specs.Told.{Host, record_taken, told_from}
+use Rattle.nqs_store.specs.Told.{Host, host_by, record_taken, told_from}
 use Rattle.nqs_store.specs.declared.tell.TellFault.{TellFault}
 
 -- The record whose gate stands at the place is read as a change, or is none.
@@ -26,10 +25,10 @@ pub record ReadsChange (place : ℕ) (payload : List ℕ) (result : Result (Chan
   pub ok : IfOk result (λ change. (record_of payload ≡ Ok change) × MayStand change)
   pub err : IfErr result (IsRefused place ((fault : RecordFault) × (record_of payload ≡ Err fault)))
 
--- A snapshot is read as a host, or is none of one.
-pub record ReadsSnapshot (snapshot : List ℕ) (result : Result HostState TellFault) : Type 0 where
-  pub ok : IfOk result (λ state. (snapshot_of snapshot ≡ Ok (content state)) × IsSoundHost (content state))
-  pub err : IfErr result (IsRefused 24 ((fault : RecordFault) × (snapshot_of snapshot ≡ Err fault)))
+-- A snapshot of this version is read as a host, or is none of one.
+pub record ReadsSnapshot (version : ℕ) (snapshot : List ℕ) (result : Result HostState TellFault) : Type 0 where
+  pub ok : IfOk result (λ state. (host_by version snapshot ≡ Ok (content state)) × IsSoundHost (content state))
+  pub err : IfErr result (IsRefused 24 ((fault : RecordFault) × (host_by version snapshot ≡ Err fault)))
 
 module _ {E : Type 0} where
   -- The host that is told, if one is, is the answer; else what is wrong is.

@@ -1,5 +1,5 @@
 -- What the records of a journal tell.
-use Rattle.std.specs.Prelude.{◌≡◌, ◌⊎◌, ℕ, ◌+◌, Bool, false, true, if◌then◌else◌, List, [], ◌∷◌, ◌++◌, length, Option, Some, None, Ok, Err, IsTrue, is_some}
+use Rattle.std.specs.Prelude.{◌≡◌, ◌⊎◌, ℕ, zero, suc, ◌+◌, if◌then◌else◌, List, [], ◌∷◌, ◌++◌, length, Option, Some, None, Ok, Err, IsTrue, is_some}
 use Rattle.nqs_state.specs.State.{State}
 use Rattle.nqs_base.specs.declared.extent.Extent.{Extent}
 use Rattle.nqs_types.specs.declared.change.Change.{Change}
@@ -7,10 +7,11 @@ use Rattle.nqs_types.specs.declared.change.Change.TheVariants.{Site}
 use Rattle.nqs_rules.specs.Format.{formatted}
 use Rattle.nqs_rules.specs.Fits.{fits}
 use Rattle.nqs_rules.specs.Applied.{applied}
-use Rattle.nqs_journal.specs.Text.{header, snapshot_front, records}
+use Rattle.nqs_journal.specs.Text.{header, records}
+use Rattle.nqs_journal.specs.Either.{front_of}
 use Rattle.nqs_records.specs.Reading.{Read}
 use Rattle.nqs_records.specs.Kinds.{record_of}
-use Rattle.nqs_snapshot.specs.Reading.{snapshot_of}
+use Rattle.nqs_snapshot.specs.Reading.{snapshot_of, old_snapshot_of}
 
 -- a host with the extents of its scripts and outputs
 abbrev pub Host : Type 0
@@ -45,11 +46,17 @@ abbrev pub told_behind : Read Host → List (List ℕ) → Option Host
 told_behind (Ok host) payloads = told_from (Some host) payloads
 told_behind (Err fault) payloads = None
 
--- the host that a journal of either form tells, as it begins with a snapshot or not, if it tells
--- one
-abbrev pub told_by : Bool → List ℕ → List (List ℕ) → Option Host
-told_by false snapshot payloads = told payloads
-told_by true snapshot payloads = told_behind (snapshot_of snapshot) payloads
+-- what a snapshot is read as, by the version of its header: that of version 1 has a spelling of its
+-- own
+abbrev pub host_by : ℕ → List ℕ → Read Host
+host_by (suc zero) snapshot = old_snapshot_of snapshot
+host_by version snapshot = snapshot_of snapshot
+
+-- the host that a journal of any form tells, by the version of its snapshot, 0 where it has none,
+-- if it tells one
+abbrev pub told_by : ℕ → List ℕ → List (List ℕ) → Option Host
+told_by zero snapshot payloads = told payloads
+told_by (suc more) snapshot payloads = told_behind (host_by (suc more) snapshot) payloads
 
 -- The first record that is no change or doesn't fit what those before it tell. Its gate stands at
 -- the place.
@@ -77,13 +84,14 @@ pub record IsBadFrom (host : Host) (place : ℕ) (payloads : List (List ℕ)) (a
   pub bad : record_taken payload (told_from (Some host) before) ≡ None
   pub stands : at ≡ place + length (records before)
 
--- why a snapshot and the payloads behind it tell no host: it is no spelling of one, or a record is
--- bad
-abbrev pub IsUntoldBehind : Read Host → List ℕ → List (List ℕ) → ℕ → Type 0
-IsUntoldBehind (Ok host) snapshot payloads place = IsBadFrom host (length (snapshot_front snapshot)) payloads place
-IsUntoldBehind (Err fault) snapshot payloads place = place ≡ 24
+-- why a snapshot and the payloads behind it, from this place on, tell no host: it is no spelling of
+-- one, or a record is bad
+abbrev pub IsUntoldBehind : Read Host → ℕ → List (List ℕ) → ℕ → Type 0
+IsUntoldBehind (Ok host) front payloads place = IsBadFrom host front payloads place
+IsUntoldBehind (Err fault) front payloads place = place ≡ 24
 
--- why a journal of either form tells no host
-abbrev pub IsUntoldBy : Bool → List ℕ → List (List ℕ) → ℕ → Type 0
-IsUntoldBy false snapshot payloads place = IsUntold payloads place
-IsUntoldBy true snapshot payloads place = IsUntoldBehind (snapshot_of snapshot) snapshot payloads place
+-- why a journal of any form tells no host
+abbrev pub IsUntoldBy : ℕ → List ℕ → List (List ℕ) → ℕ → Type 0
+IsUntoldBy zero snapshot payloads place = IsUntold payloads place
+IsUntoldBy (suc more) snapshot payloads place =
+    IsUntoldBehind (host_by (suc more) snapshot) (length (front_of (suc more) snapshot)) payloads place

@@ -11,18 +11,17 @@ ghost use Rattle.nqs_state.specs.Keys.{is_stage, is_file};
 ghost use Rattle.nqs_rules.specs.Tests.{last_u64};
 ghost use Rattle.nqs_rules.specs.Find.{peer_number, find_row, find_hand, find_promise, find_peer};
 ghost use Rattle.nqs_rules.specs.Stepped.{part_bytes};
-ghost use Rattle.nqs_rules.specs.Applied.{is_promise_of};
 ghost use Rattle.nqs_store.specs.Live.{row_part, promise_part, stage_part, file_part};
 ghost use Rattle.nqs_store.specs.Accounts.{Takes};
 ghost use Rattle.nqs_store.specs.Calls.{Frees};
-ghost use Rattle.nqs_store.specs.Frees.{part_of, goes_at_boot, stages_left, numbers_left, row_of_hand, doubled, gone};
+ghost use Rattle.nqs_store.specs.Frees.{part_of, goes_at_boot, stages_left, numbers_left, row_of_hand, doubled, outlived, gone};
 
 use nqs_base::{Extent, Key, Keyed};
 use nqs_base_tables::Table;
 use nqs_changes::boot::may_start_again;
 use nqs_conf::is_queued_in;
 use nqs_outside::Disk;
-use nqs_routing::{find_peer, is_promise_of};
+use nqs_routing::{find_peer, is_outlived};
 use nqs_spool::Spool;
 use nqs_state::{HostState, Rows};
 use nqs_types::{
@@ -194,14 +193,14 @@ fn free_at_boot<D: Disk>(spool: &mut Spool<D>, state: &HostState)
     free_rows(spool, &state.rows, goes_at_boot);
 }
 
-// The promises to a host.
-fn free_promises_of<D: Disk>(spool: &mut Spool<D>, state: &HostState, peer: HostId)
-    ensures { Frees spool.old spool.new (map promise_part (filter (is_promise_of peer) (content state.now).promises)) }
+// The promises to a host that its low outlives.
+fn free_outlived<D: Disk>(spool: &mut Spool<D>, state: &HostState, peer: HostId, low: u64)
+    ensures { Frees spool.old spool.new (outlived peer low (content state.now)) }
 {
     free_all(
         spool,
         &state.promises,
-        |promise: &Promise| is_promise_of(promise, peer),
+        |promise: &Promise| is_outlived(promise, peer, low),
         |promise: &Promise| promise.row.script,
     );
 }
@@ -227,7 +226,8 @@ pub(crate) fn free_gone<D: Disk>(spool: &mut Spool<D>, state: &HostState, change
         Change::Boot => free_at_boot(spool, state),
         Change::Edited(edit) => free_edited(spool, state, edit),
         Change::HandCommitted { peer, number } => free_row_of_hand(spool, state, *peer, *number),
-        Change::Promised { peer, .. } => free_promises_of(spool, state, *peer),
+        Change::OldPromised { peer, number, .. } => free_outlived(spool, state, *peer, *number),
+        Change::Promised { peer, low, .. } => free_outlived(spool, state, *peer, *low),
         Change::Accepted { peer, number } => free_doubled(spool, state, *peer, *number),
         Change::Dropped { peer, number } => free_promise(spool, state, *peer, *number),
         Change::StageGot { bytes, .. } => free_unnumbered(spool, state, bytes),

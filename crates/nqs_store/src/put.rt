@@ -67,6 +67,7 @@ pub(crate) fn set_extents(alloc: Global, change: &mut Change, extents: &[Extent]
             set_part_extents(parts.as_mut_slice(), extents);
             *outputs = Items::from_vec(parts);
         }
+        Change::OldPromised { script, .. } => *script = nth_or(*script, extents, 0),
         Change::Promised { script, .. } => *script = nth_or(*script, extents, 0),
         Change::StageGot { bytes, .. } => *bytes = nth_or(*bytes, extents, 0),
         _ => {}

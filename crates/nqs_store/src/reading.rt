@@ -1,5 +1,5 @@
 //! A host read from its disks: the root's first byte, which names the active journal, that journal
-//! in either form, and the live extents in the spool.
+//! in any form, and the live extents in the spool.
 
 ghost use Rattle.std.specs.Prelude.{◌≡◌, ◌≤◌, ◌^◌, ◌++◌, List, IsTrue, length};
 ghost use Rattle.nqs_state.specs.State.{content};
@@ -73,14 +73,14 @@ fn unrested(fault: JournalFault) -> LoadFault
 fn told_host(
     alloc: Global,
     on: Which,
-    has: bool,
+    version: u8,
     snapshot: &[u8],
     payloads: &[Bytes],
 ) -> Result<HostState, LoadFault>
-    requires { length (front_of has snapshot.now ++ records payloads.now) ≤ 2 ^ 40 }
-    ensures { TellsHost (told_by has snapshot.now payloads.now) (IsHostFault on has snapshot.now payloads.now) result }
+    requires { length (front_of version snapshot.now ++ records payloads.now) ≤ 2 ^ 40 }
+    ensures { TellsHost (told_by version snapshot.now payloads.now) (IsHostFault on version snapshot.now payloads.now) result }
 {
-    match tell(alloc, has, snapshot, payloads) {
+    match tell(alloc, version, snapshot, payloads) {
         Ok(state) => Ok(state),
         Err(TellFault::Untold(place)) => Err(LoadFault::NotNqs(on, place)),
         Err(TellFault::Memory(memory)) => Err(LoadFault::Memory(memory)),
@@ -103,15 +103,15 @@ fn sound_extents(alloc: Global, state: &HostState, size: u64) -> Result<LiveExte
 fn host_in<D: Disk>(
     alloc: Global,
     on: Which,
-    has: bool,
+    version: u8,
     snapshot: &[u8],
     payloads: &[Bytes],
     spool: &mut D,
 ) -> Result<(HostState, LiveExtents), LoadFault>
-    requires { length (front_of has snapshot.now ++ records payloads.now) ≤ 2 ^ 40 }
-    ensures { ReadsHost D.Disk on has snapshot.now payloads.now spool.old spool.new result }
+    requires { length (front_of version snapshot.now ++ records payloads.now) ≤ 2 ^ 40 }
+    ensures { ReadsHost D.Disk on version snapshot.now payloads.now spool.old spool.new result }
 {
-    let state = told_host(alloc, on, has, snapshot, payloads)?;
+    let state = told_host(alloc, on, version, snapshot, payloads)?;
     let Ok(size) = spool.len() else {
         return Err(LoadFault::Disk(Which::Spool));
     };
@@ -123,16 +123,16 @@ fn host_in<D: Disk>(
 fn host_with<D: Disk>(
     alloc: Global,
     on: Which,
-    has: bool,
+    version: u8,
     snapshot: &[u8],
     payloads: &[Bytes],
     spool: &mut Spool<D>,
 ) -> Result<(HostState, LiveExtents), LoadFault>
-    requires { length (front_of has snapshot.now ++ records payloads.now) ≤ 2 ^ 40 }
-    ensures read { ReadsHost D.Disk on has snapshot.now payloads.now (disk_of spool.old) (disk_of spool.new) result }
+    requires { length (front_of version snapshot.now ++ records payloads.now) ≤ 2 ^ 40 }
+    ensures read { ReadsHost D.Disk on version snapshot.now payloads.now (disk_of spool.old) (disk_of spool.new) result }
     ensures tells { (live : List Extent) → SpoolTells spool.old live → SpoolTells spool.new live }
 {
-    let state = told_host(alloc, on, has, snapshot, payloads)?;
+    let state = told_host(alloc, on, version, snapshot, payloads)?;
     let Ok(size) = spool.length() else {
         return Err(LoadFault::Disk(Which::Spool));
     };
@@ -153,8 +153,8 @@ pub(crate) fn read_host<D: Disk>(
     let mut found = Vec::new(alloc);
     match read_either(alloc, active, &mut snapshot, &mut found) {
         Err(fault) => Err(journal_fault(on, fault)),
-        Ok(has) => {
-            let (state, _extents) = host_in(alloc, on, has, &snapshot, &found, spool)?;
+        Ok(version) => {
+            let (state, _extents) = host_in(alloc, on, version, &snapshot, &found, spool)?;
             Ok(state)
         }
     }
@@ -173,8 +173,8 @@ pub(crate) fn reread_host<D: Disk>(
     let mut found = Vec::new(alloc);
     match journal.reread_either(alloc, &mut snapshot, &mut found) {
         Err(fault) => Err(journal_fault(on, fault)),
-        Ok(has) => {
-            let (state, _extents) = host_with(alloc, on, has, &snapshot, &found, spool)?;
+        Ok(version) => {
+            let (state, _extents) = host_with(alloc, on, version, &snapshot, &found, spool)?;
             Ok(state)
         }
     }
@@ -212,7 +212,7 @@ pub(crate) fn open_with<D: Disk>(
     let mut found = Vec::new(alloc);
     match Journal::load_either(alloc, active, &mut snapshot, &mut found) {
         Err((fault, active)) => Err((journal_fault(on, fault), active, resting, spool)),
-        Ok((journal, has)) => match host_in(alloc, on, has, &snapshot, &found, &mut spool) {
+        Ok((journal, version)) => match host_in(alloc, on, version, &snapshot, &found, &mut spool) {
             Err(fault) => Err((fault, journal.close(), resting, spool)),
             Ok((state, extents)) => match open_rest(alloc, resting, spool, extents) {
                 Err((fault, resting, spool)) => Err((fault, journal.close(), resting, spool)),

@@ -6,14 +6,18 @@
 //! boot looks at these alone: a journal is told in the time of its records, however many of them
 //! are boots.
 
-ghost use Rattle.std.specs.Prelude.{◌≡◌, ◌≤◌, ◌^◌, ◌+◌, ◌++◌, [], length, IfOk, OnOk, None, true, false, IsTrue};
+ghost use Rattle.std.specs.Prelude.{◌≡◌, ◌≢◌, ◌≤◌, ◌^◌, ◌+◌, ◌++◌, [], length, IfOk, OnOk, None, IsTrue};
 ghost use Rattle.nqs_state.specs.State.{content};
 ghost use Rattle.nqs_changes.specs.Running.{runs_in, runs_only};
-ghost use Rattle.nqs_journal.specs.Text.{header, snapshot_front, records};
+ghost use Rattle.nqs_journal.specs.Text.{header, records};
 ghost use Rattle.nqs_journal.specs.Either.{front_of};
 ghost use Rattle.nqs_base.specs.declared.extent.Extent.{Extent};
 ghost use Rattle.nqs_types.specs.declared.request.Row.{Row as RowOf};
-ghost use Rattle.nqs_store.specs.Told.{record_taken, told, told_by};
+ghost use Rattle.nqs_rules.specs.InOrder.{IsInOrder, IsConsistent};
+ghost use Rattle.nqs_records.specs.Reading.{Answers};
+ghost use Rattle.nqs_snapshot.specs.Sound.{HasShortParts};
+ghost use Rattle.nqs_snapshot.specs.Laws.{told_by as read_as};
+ghost use Rattle.nqs_store.specs.Told.{record_taken, told, host_by, told_by};
 ghost use Rattle.nqs_store.specs.TellFaults.{IsRefused, IsTellFault};
 ghost use Rattle.nqs_store.specs.Telling.{ReadsChange, ReadsSnapshot, TellsHost, IsSoFar, MayMake, MakesChange, TakesRecord, TakesEach};
 ghost use Rattle.nqs_base.specs.Want.{want};
@@ -22,7 +26,7 @@ use nqs_base::{Bytes, Memory};
 use nqs_changes::boot::boot_running;
 use nqs_host::{apply, fits, formatted};
 use nqs_records::{RecordFault, read_change};
-use nqs_snapshot::read_state;
+use nqs_snapshot::{read_old_state, read_state};
 use nqs_state::HostState;
 use nqs_types::{Change, RequestId, Row, RowState};
 use std::alloc::Global;
@@ -144,11 +148,24 @@ fn running_of(alloc: Global, state: &HostState) -> Result<Vec<RequestId>, Memory
     Ok(running)
 }
 
-// The host that a snapshot is read as.
-fn snapshot_host(alloc: Global, snapshot: &[u8]) -> Result<HostState, TellFault>
-    ensures { ReadsSnapshot snapshot.now result }
+// What the bytes of a snapshot of this version are read as.
+fn read_version(alloc: Global, version: u8, snapshot: &[u8]) -> Result<HostState, RecordFault>
+    ensures answer { Answers (host_by version snapshot.now) (read_as result) }
+    ensures order { IfOk result (λ state. IsInOrder (content state)) }
+    ensures consistent { IfOk result (λ state. IsConsistent (content state)) }
+    ensures short { IfOk result (λ state. HasShortParts (content state)) }
 {
-    match read_state(alloc, snapshot) {
+    if version == 1 {
+        return read_old_state(alloc, snapshot);
+    }
+    read_state(alloc, snapshot)
+}
+
+// The host that a snapshot of this version is read as.
+fn snapshot_host(alloc: Global, version: u8, snapshot: &[u8]) -> Result<HostState, TellFault>
+    ensures { ReadsSnapshot version snapshot.now result }
+{
+    match read_version(alloc, version, snapshot) {
         Ok(state) => Ok(state),
         Err(RecordFault::Memory(memory)) => Err(TellFault::Memory(memory)),
         Err(_) => Err(TellFault::Untold(SNAPSHOT)),
@@ -178,7 +195,7 @@ fn take_records(
 // The host that records tell behind the header.
 fn tell_first(alloc: Global, payloads: &[Bytes]) -> Result<HostState, TellFault>
     requires { length (header ++ records payloads.now) ≤ 2 ^ 40 }
-    ensures { TellsHost (told payloads.now) (IsTellFault false [] payloads.now) result }
+    ensures { TellsHost (told payloads.now) (IsTellFault 0 [] payloads.now) result }
 {
     let Some((first, later)) = payloads.split_first() else {
         return Err(TellFault::Untold(HEADER));
@@ -191,30 +208,36 @@ fn tell_first(alloc: Global, payloads: &[Bytes]) -> Result<HostState, TellFault>
 }
 
 // The host that records tell behind a snapshot.
-fn tell_behind(alloc: Global, snapshot: &[u8], payloads: &[Bytes]) -> Result<HostState, TellFault>
-    requires { length (snapshot_front snapshot.now ++ records payloads.now) ≤ 2 ^ 40 }
-    ensures { TellsHost (told_by true snapshot.now payloads.now) (IsTellFault true snapshot.now payloads.now) result }
+fn tell_behind(
+    alloc: Global,
+    version: u8,
+    snapshot: &[u8],
+    payloads: &[Bytes],
+) -> Result<HostState, TellFault>
+    requires version { version ≢ 0 }
+    requires short { length (front_of version snapshot.now ++ records payloads.now) ≤ 2 ^ 40 }
+    ensures { TellsHost (told_by version snapshot.now payloads.now) (IsTellFault version snapshot.now payloads.now) result }
 {
-    let mut state = snapshot_host(alloc, snapshot)?;
+    let mut state = snapshot_host(alloc, version, snapshot)?;
     let mut running = running_of(alloc, &state)?;
     let place = SNAPSHOT + snapshot.len() as u64;
     take_records(alloc, &mut state, &mut running, place, payloads)?;
     Ok(state)
 }
 
-/// The host that a journal of either form tells, by its snapshot, if it has one, and its records.
+/// The host that a journal of any form tells, by the version of its snapshot, 0 where it has none,
+/// the snapshot's bytes, and its records.
 pub(crate) fn tell(
     alloc: Global,
-    has: bool,
+    version: u8,
     snapshot: &[u8],
     payloads: &[Bytes],
 ) -> Result<HostState, TellFault>
-    requires { length (front_of has snapshot.now ++ records payloads.now) ≤ 2 ^ 40 }
-    ensures { TellsHost (told_by has snapshot.now payloads.now) (IsTellFault has snapshot.now payloads.now) result }
+    requires { length (front_of version snapshot.now ++ records payloads.now) ≤ 2 ^ 40 }
+    ensures { TellsHost (told_by version snapshot.now payloads.now) (IsTellFault version snapshot.now payloads.now) result }
 {
-    if has {
-        tell_behind(alloc, snapshot, payloads)
-    } else {
-        tell_first(alloc, payloads)
+    if version == 0 {
+        return tell_first(alloc, payloads);
     }
+    tell_behind(alloc, version, snapshot, payloads)
 }

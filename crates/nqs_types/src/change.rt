@@ -64,9 +64,21 @@ pub enum Change<E: Copy + Drop = Extent> {
         peer: HostId,
         number: u64,
     },
+    /// A promise as older versions noted it: its low is its number. It is read, and made by no
+    /// step.
+    OldPromised {
+        peer: HostId,
+        number: u64,
+        queue: Name,
+        carried: Carried,
+        script: E,
+    },
+    /// An offered request is promised. The handovers from its peer with a number below `low`, which
+    /// is from 1 to the number, are closed by it.
     Promised {
         peer: HostId,
         number: u64,
+        low: u64,
         queue: Name,
         carried: Carried,
         script: E,

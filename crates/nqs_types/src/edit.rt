@@ -60,6 +60,11 @@ pub enum ConfEdit {
         destination: NamedDest,
         queue: Name,
     },
+    /// The destination becomes the queue's first one; the others stay in their order.
+    FirstDestination {
+        destination: NamedDest,
+        queue: Name,
+    },
     SetDefaultQueue {
         queue: Name,
     },

@@ -29,8 +29,8 @@ pub use queue::{Access, ComplexDef, DestList, DeviceDef, Kind, QueueDef};
 pub use reason::{DestAnswer, Reason};
 pub use refusal::Refusal;
 pub use request::{
-    Carried, FileOut, Hand, Hold, Job, Limits, Peer, Phase, Promise, Refused, RefusedList, Row,
-    RowState, Stage,
+    Carried, FileOut, Hand, Hold, Job, Limits, NumberList, Peer, Phase, Promise, Refused,
+    RefusedList, Row, RowState, Stage,
 };
 pub use rule::{Choice, Entry, Rank};
 pub use table_row::{NetState, TableRow};

@@ -22,7 +22,10 @@ pub enum Tool {
 #[derive(Drop)]
 pub enum Body {
     Offer {
+        /// From 1 on.
         number: u64,
+        /// From 1 to the number: no handover with a smaller one is open any more.
+        low: u64,
         queue: Name,
         carried: Carried,
         script: Bytes,
@@ -91,16 +94,18 @@ pub struct Message {
 
 fn clone_offer(
     number: u64,
+    low: u64,
     queue: Name,
     carried: &Carried,
     script: &Bytes,
 ) -> Result<Body, AllocError>
-    ensures { IfOk result (λ body. body ≡ Offer number queue carried.now script.now) }
+    ensures { IfOk result (λ body. body ≡ Offer number low queue carried.now script.now) }
 {
     let carried = carried.clone()?;
     let script = script.clone()?;
     Ok(Body::Offer {
         number,
+        low,
         queue,
         carried,
         script,
@@ -177,10 +182,11 @@ impl Clone for Body {
         match self {
             Body::Offer {
                 number,
+                low,
                 queue,
                 carried,
                 script,
-            } => clone_offer(*number, *queue, carried, script),
+            } => clone_offer(*number, *low, *queue, carried, script),
             Body::Ready { number } => Ok(Body::Ready { number: *number }),
             Body::Refused { number, cause } => Ok(Body::Refused {
                 number: *number,

@@ -28,7 +28,7 @@ pub enum Reason {
     /// As many requests run in its queue, or are on their way, as its run limit, or more.
     RunLimit(u16),
     /// As many requests run in the queues of this complex as its limit, or more. Its queue is one
-    /// of them, and the complex the first created of several such.
+    /// of them.
     ComplexLimit(Name, u16),
     /// As many requests run in the batch queues of the host as its global limit, or more.
     GlobalLimit(u16),
@@ -52,8 +52,10 @@ pub enum DestAnswer {
     NoHost,
     /// No number is left for a handover to its host.
     NoNumberLeft,
-    /// Its host is being handed another request.
+    /// Its host is being handed eight requests, as many as may be at once.
     HandingOver,
+    /// The handover of this number to its host isn't over, and the next number is 64 above it.
+    NotSettled(u64),
     /// Its host was silent, and isn't asked before this moment, in seconds since 1970.
     WaitedFor(u64),
     /// It may be asked now.

@@ -211,13 +211,18 @@ pub struct Hand {
     pub phase: Phase,
 }
 
+/// Numbers of handovers, ascending.
+pub type NumberList = ListOf<u64>;
+
 /// What a host knows of its dealings with another one.
-#[derive(Clone, Copy, Debug, PartialEq, Eq)]
+#[derive(Debug, PartialEq, Eq, Drop)]
 pub struct Peer {
-    /// The number of the next handover to it.
+    /// The number of the next handover to it, at first 1.
     pub next: u64,
-    /// Each handover from it with a number up to this one is closed.
-    pub closed: u64,
+    /// Each handover from it with a number up to this one is closed, at first 0.
+    pub floor: u64,
+    /// The closed handovers from it with a greater number, ascending.
+    pub closed: NumberList,
     /// Until when no handover to it is opened, in seconds since 1970.
     pub wait: u64,
     /// The number of the next stage to it.

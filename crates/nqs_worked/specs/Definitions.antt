@@ -1,8 +1,7 @@
 -- States, changes and texts on which single definitions are computed.
-use Rattle.std.specs.Prelude.{ℕ, ◌-◌, Bool, false, List, [], ◌∷◌, map, replicate, codes, Option, None, Some, Result}
+use Rattle.std.specs.Prelude.{ℕ, zero, suc, ◌+◌, ◌-◌, Bool, false, List, [], ◌∷◌, map, replicate, codes, Option, None, Some, Result}
 use Rattle.std.specs.List.{list_all}
 use Rattle.nqs_state.specs.State.{Plain}
-use Rattle.nqs_rules.specs.Tests.{same_host}
 use Rattle.nqs_types.specs.Ids.{id_eq}
 use Rattle.nqs_rules.specs.Format.{formatted, first_queue, new_queue, new_peer}
 use Rattle.nqs_rules.specs.Causes.{first_refusal}
@@ -11,7 +10,7 @@ use Rattle.nqs_rules.specs.Devices.{new_device}
 use Rattle.nqs_rules.specs.Applied.{new_row, first_carried, applied}
 use Rattle.nqs_rules.specs.Fits.{edit_causes, fits}
 use Rattle.nqs_rules.specs.InOrder.{is_site_right, are_parameters_right, are_lists_short, are_keys_distinct, are_distinct, same_number, arrivals_of}
-use Rattle.nqs_rules.specs.InOrder.{is_queue_right, is_complex_right, is_row_right, is_promise_right, promisers, is_hand_right, has_few_hands, offered_ids}
+use Rattle.nqs_rules.specs.InOrder.{is_queue_right, is_complex_right, is_row_right, is_promise_right, is_hand_right, has_few_hands, offered_ids}
 use Rattle.nqs_rules.specs.InOrder.{is_peer_right, is_stage_right, is_file_right, is_doom_right, is_hold_right, has_hand, is_promise_free, is_hand_of_given}
 use Rattle.nqs_rules.specs.World.{Act}
 use Rattle.nqs_rules.specs.Run.{run_of, states_of}
@@ -28,6 +27,8 @@ use Rattle.nqs_types.specs.declared.event.Event.{Event}
 use Rattle.nqs_types.specs.declared.message.Body.{Body}
 use Rattle.nqs_types.specs.declared.request.Stage.{Stage}
 use Rattle.nqs_types.specs.declared.request.FileOut.{FileOut}
+use Rattle.nqs_types.specs.declared.request.Hand.{Hand}
+use Rattle.nqs_types.specs.declared.request.Phase.{Phase}
 use Rattle.nqs_types.specs.declared.request.Phase.TheVariants.{Offered, Committed}
 use Rattle.nqs_rules.specs.Step.{step}
 use Rattle.nqs_rules.specs.Stepped.{Stepped, makes, message, ready, shown}
@@ -162,9 +163,26 @@ far_carried = record (carried 3) { id = request 3 1 }
 abbrev pub with_peer : Peer → Plain
 with_peer p = record with_link { peers = new_peer ∷ p ∷ [] }
 
+-- a peer's floor, and behind it its other closed numbers
+abbrev pub closed_numbers : Peer → List ℕ
+closed_numbers p = p.floor ∷ p.closed
+
+-- so many numbers, from this one on
+abbrev pub upwards : ℕ → ℕ → List ℕ
+upwards n zero = []
+upwards n (suc more) = n ∷ upwards (n + 1) more
+
+-- a handover to the other host, under a number, of the request with that number
+abbrev pub a_hand : Phase → ℕ → Hand
+a_hand phase number = record { peer = host 1; number = number; id = request number 0; queue = codes "batch"; since = 0; phase = phase }
+
+-- handovers to the other host, in this phase under these numbers, and the number that it gets next
+abbrev pub with_hands : Phase → List ℕ → ℕ → Plain
+with_hands phase numbers next = record (with_peer (record new_peer { next = next })) { hands = map (a_hand phase) numbers; seq = 9 }
+
 -- the other host, which was promised the request
 abbrev pub with_promised : Plain
-with_promised = applied (Promised (host 0) 1 (codes "batch") (carried 1) []) (formatted (host 1) two_hosts)
+with_promised = applied (Promised (host 0) 1 1 (codes "batch") (carried 1) []) (formatted (host 1) two_hosts)
 
 -- a job's end with two outputs, and two files whose bytes are in the spool
 abbrev pub planned : Stepped Extent
@@ -178,7 +196,7 @@ abbrev pub order_tests : Plain → List Bool
 order_tests s =
     is_site_right s ∷ are_parameters_right s ∷ are_lists_short s ∷ are_keys_distinct s ∷ are_distinct same_number (arrivals_of s)
     ∷ list_all (is_queue_right s) s.queues ∷ list_all (is_complex_right s) s.complexes ∷ list_all (is_row_right s) s.rows
-    ∷ list_all (is_promise_right s) s.promises ∷ are_distinct same_host (promisers s) ∷ list_all (is_hand_right s) s.hands
+    ∷ list_all (is_promise_right s) s.promises ∷ list_all (is_hand_right s) s.hands
     ∷ list_all (has_few_hands s) s.hands ∷ are_distinct id_eq (offered_ids s) ∷ list_all is_peer_right s.peers
     ∷ list_all (is_stage_right s) s.stages ∷ list_all (is_file_right s) s.files
     ∷ list_all is_doom_right s.rows ∷ list_all is_hold_right s.rows ∷ list_all (has_hand s) s.rows ∷ list_all is_promise_free s.promises
@@ -236,7 +254,10 @@ wrong_states =
     ∷ with_row (record (queued 1) { id = request 1 2 }) ∷ with_row (record (queued 1) { arrival = 10 }) ∷ with_row (record (queued 1) { starts = 1 })
     ∷ with_row (running 65536) ∷ with_row (record (running 1) { lost = 1 }) ∷ with_row (record (queued 1) { state = Routing })
     ∷ with_row (record (queued 1) { hops = 33 })
-    ∷ with_row (record (queued 1) { device = Some (codes "laser") }) ∷ record with_promise { promises = promise 3 3 ∷ promise 4 4 ∷ [] }
+    ∷ with_row (record (queued 1) { device = Some (codes "laser") }) ∷ record with_promise { promises = promise 3 3 ∷ promise 3 4 ∷ [] }
+    ∷ record with_promise { peers = new_peer ∷ record new_peer { floor = 3 } ∷ [] }
+    ∷ record with_promise { peers = new_peer ∷ record new_peer { closed = 3 ∷ [] } ∷ [] }
+    ∷ with_peer (record new_peer { floor = 3; closed = 3 ∷ [] }) ∷ with_peer (record new_peer { closed = 2 ∷ 2 ∷ [] })
     ∷ record on_its_way { rows = [] } ∷ record fresh { patience = 0 } ∷ listing 2 ∷ []
 
 -- each refusal in turn

@@ -7,4 +7,6 @@ pub mod Stops
 pub mod Checkpoints
 pub mod SmallNetwork
 pub mod Definitions
+pub mod Handovers
 pub mod Waits
+pub mod ManyHandovers

@@ -4,6 +4,7 @@ ghost use Rattle.std.specs.Prelude.{◌≡◌, codes, [], ◌∷◌, ◌++◌, m
 ghost use Rattle.nqs_worked.specs.Definitions.{refused, near, refused_by, with_queues, with_complexes, with_devices, with_managers, with_operators, with_users};
 ghost use Rattle.nqs_worked.specs.Definitions.{with_dests, fresh, far, link, with_link, carried, queued, in_link, running, with_row, on_its_way, handed_over};
 ghost use Rattle.nqs_worked.specs.Definitions.{promise, with_promise, listing, crowded, fit_each, order_told, is_all_right, refusals, sample, far_carried};
+ghost use Rattle.nqs_worked.specs.Definitions.{closed_numbers, upwards, with_hands};
 ghost use Rattle.nqs_worked.specs.Definitions.{with_peer, wrong_states, with_promised, planned, busy, a_stage, sends, told_at, changed_at};
 ghost use Rattle.nqs_types.specs.declared.edit.Edit.TheVariants.{Conf, Limits, Access, Devices, Rows};
 ghost use Rattle.nqs_types.specs.declared.edit.ConfEdit.TheVariants.{CreateBatchQueue, AddDestination, SetPriority, SetRunLimit, SetPatience, SetRetryWait};
@@ -20,7 +21,8 @@ ghost use Rattle.nqs_types.specs.declared.request.RowState.TheVariants.{Queued, 
 ghost use Rattle.nqs_types.specs.declared.request.Hold.TheVariants.{User, System};
 ghost use Rattle.nqs_types.specs.declared.request.Phase.TheVariants.{Offered, Committed};
 ghost use Rattle.nqs_types.specs.declared.change.Change.TheVariants.{Site, Submitted, Deleted, Doomed, Started, Ended, Unlaunched, Boot, Edited, HandOpened};
-ghost use Rattle.nqs_types.specs.declared.change.Change.TheVariants.{HandCommitted, HandRefused, HandsSilent, HandDone, Promised, Accepted, Dropped};
+ghost use Rattle.nqs_types.specs.declared.change.Change.TheVariants.{HandCommitted, HandRefused, HandsSilent, HandDone, OldPromised, Promised, Accepted};
+ghost use Rattle.nqs_types.specs.declared.change.Change.TheVariants.{Dropped};
 ghost use Rattle.nqs_types.specs.declared.change.Change.TheVariants.{MovedLocal, RefusedLocal, HeldFar, StageGot, StageGone, FileGone};
 ghost use Rattle.nqs_types.specs.declared.message.Body.TheVariants as body;
 ghost use Rattle.nqs_types.specs.declared.event.Output.TheVariants as out;
@@ -61,6 +63,7 @@ ghost use Rattle.nqs_worked.specs.QueueEdits.{devices_are_edited};
 ghost use Rattle.nqs_worked.specs.Stops.{outputs_are_written, rows_come_back_in_order};
 ghost use Rattle.nqs_worked.specs.SmallNetwork.{purge_keeps_what_is_active, packets_repeat_after_boots, stages_repeat, peer_is_silent};
 ghost use Rattle.nqs_worked.specs.SmallNetwork.{promises_count_for_a_queue};
+ghost use Rattle.nqs_worked.specs.ManyHandovers.{ninth_waits, offers_cross, one_of_three_is_deleted, several_outlive_boots, silent_offers_are_passed};
 
 /// A list that has its greatest number of items takes no further one.
 pub fn lists_have_limits()
@@ -80,9 +83,9 @@ pub fn numbers_end()
         ≡ Ok tt ∷ Err NumbersUsed ∷ [] }
     ensures arrivals { map (λ n. first_refusal (submit_causes sample (record fresh { arrivals = n }))) (18446744073709551614 ∷ 18446744073709551615 ∷ [])
         ≡ Ok tt ∷ Err NumbersUsed ∷ [] }
-    ensures offers { map (λ n. first_refusal (offer_causes (host 1) (codes "batch") far_carried (record fresh { arrivals = n })))
+    ensures offers { map (λ n. first_refusal (offer_causes (host 1) 1 (codes "batch") far_carried (record fresh { arrivals = n })))
         (18446744073709551614 ∷ 18446744073709551615 ∷ []) ≡ Ok tt ∷ Err NumbersUsed ∷ [] }
-    ensures given { map (λ n. first_refusal (offer_causes (host 1) (codes "batch") (carried 5) (record fresh { seq = n }))) (4 ∷ 5 ∷ [])
+    ensures given { map (λ n. first_refusal (offer_causes (host 1) 1 (codes "batch") (carried 5) (record fresh { seq = n }))) (4 ∷ 5 ∷ [])
         ≡ Err (RequestExists (named 5 (codes "alpha"))) ∷ Ok tt ∷ [] }
     ensures full_first { first_refusal (submit_causes sample (record (crowded 9999) { seq = 4294967294 })) ≡ Err HostFull }
     ensures moves { map (λ n. refused (Rows (MoveRequest (named 1 (codes "alpha")) (codes "link")))
@@ -94,23 +97,29 @@ pub fn numbers_end()
         ≡ 18446744073709551614 ∷ 18446744073709551615 ∷ 18446744073709551615 ∷ 18446744073709551615 ∷ [] }
 {}
 
-/// A host has at most 10,000 rows and promises, and an offer doesn't count the promise that it
-/// replaces.
+/// A host has at most 10,000 rows and promises, and an offer doesn't count the promises of its peer
+/// below its low.
 pub fn hosts_are_full()
     ensures submissions { map (λ n. first_refusal (submit_causes sample (crowded n))) (9998 ∷ 9999 ∷ []) ≡ Ok tt ∷ Err HostFull ∷ [] }
-    ensures same_peer { first_refusal (offer_causes (host 1) (codes "batch") far_carried (crowded 9999)) ≡ Ok tt }
-    ensures numbers { first_refusal (offer_causes (host 0) (codes "batch") far_carried (record (crowded 9999) { arrivals = 18446744073709551615 }))
+    ensures same_peer { map (λ low. first_refusal (offer_causes (host 1) low (codes "batch") far_carried (crowded 9999))) (3 ∷ 4 ∷ [])
+        ≡ Err HostFull ∷ Ok tt ∷ [] }
+    ensures numbers { first_refusal (offer_causes (host 0) 4 (codes "batch") far_carried (record (crowded 9999) { arrivals = 18446744073709551615 }))
         ≡ Err HostFull }
-    ensures other_peer { first_refusal (offer_causes (host 0) (codes "batch") far_carried (crowded 9999)) ≡ Err HostFull }
+    ensures other_peer { first_refusal (offer_causes (host 0) 4 (codes "batch") far_carried (crowded 9999)) ≡ Err HostFull }
 {}
 
-/// A destination on another host is tried where it hasn't refused, no handover to that host is
-/// open, a number is left, and the wait is over.
+/// A destination on another host is tried where it hasn't refused, fewer than eight handovers to
+/// that host are open, a number is left that is less than 64 above the low, and the wait is over.
 pub fn destinations_are_free()
     ensures numbers { map (λ n. destination link 7 (with_peer (record new_peer { next = n })) (in_link 1)) (18446744073709551614 ∷ 18446744073709551615 ∷ [])
         ≡ Some 0 ∷ None ∷ [] }
     ensures waits { map (λ n. destination link 7 (with_peer (record new_peer { wait = n })) (in_link 1)) (7 ∷ 8 ∷ []) ≡ Some 0 ∷ None ∷ [] }
-    ensures hands { map (λ s. destination link 7 s (in_link 1)) (with_link ∷ on_its_way ∷ handed_over ∷ []) ≡ Some 0 ∷ None ∷ None ∷ [] }
+    ensures hands { map (λ s. destination link 7 s (in_link 1)) (with_link ∷ on_its_way ∷ handed_over ∷ []) ≡ Some 0 ∷ Some 0 ∷ Some 0 ∷ [] }
+    ensures eight { map (λ ns. destination link 7 (with_hands Offered ns 9) (in_link 1)) (upwards 1 7 ∷ upwards 1 8 ∷ []) ≡ Some 0 ∷ None ∷ [] }
+    ensures committed { map (λ ns. destination link 7 (with_hands Committed ns 9) (in_link 1)) (upwards 1 7 ∷ upwards 1 8 ∷ [])
+        ≡ Some 0 ∷ None ∷ [] }
+    ensures window { map (λ n. destination link 7 (with_hands Committed (1 ∷ []) n) (in_link 1)) (64 ∷ 65 ∷ []) ≡ Some 0 ∷ None ∷ [] }
+    ensures settled { map (λ n. destination link 7 (with_hands Committed (2 ∷ []) n) (in_link 1)) (65 ∷ 66 ∷ []) ≡ Some 0 ∷ None ∷ [] }
     ensures refusals { map (λ d. destination link 7 with_link (record (in_link 1) { refused = record { dest = d; cause = 19 } ∷ [] }))
         (far ∷ record far { host = host 0 } ∷ []) ≡ None ∷ Some 0 ∷ [] }
 {}
@@ -255,10 +264,13 @@ pub fn states_are_in_order()
         ∷ outputs_are_written ∷ rows_come_back_in_order ∷ []) ≡ replicate 7 (true ∷ []) }
     ensures two { map (order_told two_hosts) (handover ∷ source_stops_at_commit ∷ late_copies ∷ purge_keeps_what_is_active ∷ packets_repeat_after_boots
         ∷ stages_repeat ∷ peer_is_silent ∷ promises_count_for_a_queue ∷ []) ≡ replicate 8 (true ∷ true ∷ []) }
+    ensures many { map (order_told two_hosts) (offers_cross ∷ ninth_waits ∷ silent_offers_are_passed ∷ one_of_three_is_deleted ∷ several_outlive_boots ∷ [])
+        ≡ replicate 5 (true ∷ true ∷ []) }
     ensures sites { order_told (codes "cray" ∷ codes "front" ∷ []) site_of_two ≡ true ∷ true ∷ [] }
-    ensures right { map is_all_right (fresh ∷ with_row (queued 1) ∷ with_row (running 65535) ∷ on_its_way ∷ handed_over ∷ with_promise ∷ listing 1 ∷ [])
-        ≡ replicate 7 true }
-    ensures wrong { map is_all_right (wrong_states) ≡ replicate 15 false }
+    ensures right { map is_all_right (fresh ∷ with_row (queued 1) ∷ with_row (running 65535) ∷ on_its_way ∷ handed_over ∷ with_promise ∷ listing 1
+        ∷ record with_promise { promises = promise 3 3 ∷ promise 4 4 ∷ [] } ∷ with_hands Committed (upwards 1 8) 9
+        ∷ with_peer (record new_peer { floor = 2; closed = 3 ∷ 5 ∷ 70 ∷ [] }) ∷ []) ≡ replicate 10 true }
+    ensures wrong { map is_all_right (wrong_states) ≡ replicate 19 false }
 {}
 
 /// Which changes fit a formatted host, one with a queued request, and so on.
@@ -284,20 +296,30 @@ pub fn changes_fit()
         ≡ true ∷ true ∷ false ∷ true ∷ true ∷ false ∷ false ∷ [] }
     ensures committed { fit_each (HandCommitted (host 1) 1 ∷ HandRefused (host 1) 1 3 ∷ HandsSilent 9 (peer_number (host 1) 1 ∷ []) ∷ HandDone (host 1) 1
         ∷ []) handed_over ≡ false ∷ false ∷ false ∷ true ∷ [] }
-    ensures promised { fit_each (Promised (host 1) 3 (codes "batch") far_carried [] ∷ Promised (host 1) 4 (codes "batch") far_carried []
-        ∷ Promised (host 1) 4 (codes "nope") far_carried [] ∷ Promised (host 1) 0 (codes "batch") far_carried []
-        ∷ Promised (host 1) 4 (codes "batch") (carried 1) [] ∷ Promised (host 2) 4 (codes "batch") far_carried [] ∷ Accepted (host 1) 3 ∷ Accepted (host 1) 4
+    ensures promised { fit_each (Promised (host 1) 3 1 (codes "batch") far_carried [] ∷ Promised (host 1) 4 1 (codes "batch") far_carried []
+        ∷ Promised (host 1) 2 1 (codes "batch") far_carried [] ∷ Promised (host 1) 4 1 (codes "nope") far_carried []
+        ∷ Promised (host 1) 0 1 (codes "batch") far_carried [] ∷ Promised (host 1) 4 1 (codes "batch") (carried 1) []
+        ∷ Promised (host 2) 4 1 (codes "batch") far_carried [] ∷ Accepted (host 1) 3 ∷ Accepted (host 1) 4
         ∷ Dropped (host 1) 3 ∷ Dropped (host 0) 3 ∷ []) with_promise
-        ≡ false ∷ true ∷ false ∷ false ∷ false ∷ false ∷ true ∷ false ∷ true ∷ false ∷ [] }
+        ≡ false ∷ true ∷ true ∷ false ∷ false ∷ false ∷ false ∷ true ∷ false ∷ true ∷ false ∷ [] }
+    ensures old { fit_each (OldPromised (host 1) 3 (codes "batch") far_carried [] ∷ OldPromised (host 1) 4 (codes "batch") far_carried []
+        ∷ OldPromised (host 1) 4 (codes "nope") far_carried [] ∷ []) with_promise ≡ false ∷ true ∷ false ∷ [] }
 {}
 
-/// A promise is replaced, taken or dropped, and its number is closed then.
+/// A promise is taken or dropped, and its number is closed then. A new one drops those of its peer
+/// below its low, and one as older versions noted it all of its peer below itself.
 pub fn promises_are_kept()
-    ensures replaced { map (λ p. p.number) (applied (Promised (host 1) 5 (codes "batch") far_carried []) with_promise).promises ≡ 5 ∷ [] }
-    ensures arrival { map (λ p. p.row.arrival) (applied (Promised (host 1) 5 (codes "batch") far_carried []) with_promise).promises ≡ 10 ∷ [] }
-    ensures closed { map (λ c. map (λ p. p.closed) (applied c with_promise).peers)
-        (Promised (host 1) 5 (codes "batch") far_carried [] ∷ Accepted (host 1) 3 ∷ Dropped (host 1) 3 ∷ []) ≡ (0 ∷ 4 ∷ []) ∷ (0 ∷ 3 ∷ []) ∷ (0 ∷ 3 ∷ []) ∷ [] }
-    ensures behind { map (λ p. p.number) (applied (Promised (host 2) 10 (codes "batch") far_carried []) busy).promises ≡ 3 ∷ 10 ∷ [] }
+    ensures left { map (λ low. map (λ p. p.number) (applied (Promised (host 1) 5 low (codes "batch") far_carried []) with_promise).promises)
+        (1 ∷ 3 ∷ 4 ∷ 5 ∷ []) ≡ (3 ∷ 5 ∷ []) ∷ (3 ∷ 5 ∷ []) ∷ (5 ∷ []) ∷ (5 ∷ []) ∷ [] }
+    ensures old { map (λ p. p.number) (applied (OldPromised (host 1) 5 (codes "batch") far_carried []) with_promise).promises ≡ 5 ∷ [] }
+    ensures arrival { map (λ p. p.row.arrival) (applied (Promised (host 1) 5 5 (codes "batch") far_carried []) with_promise).promises ≡ 10 ∷ [] }
+    ensures closed { map (λ c. map closed_numbers (applied c with_promise).peers)
+        (Promised (host 1) 5 4 (codes "batch") far_carried [] ∷ Promised (host 1) 5 1 (codes "batch") far_carried []
+        ∷ OldPromised (host 1) 5 (codes "batch") far_carried [] ∷ Accepted (host 1) 3 ∷ Dropped (host 1) 3 ∷ [])
+        ≡ ((0 ∷ []) ∷ (3 ∷ []) ∷ []) ∷ ((0 ∷ []) ∷ (0 ∷ []) ∷ []) ∷ ((0 ∷ []) ∷ (4 ∷ []) ∷ [])
+        ∷ ((0 ∷ []) ∷ (0 ∷ 3 ∷ []) ∷ []) ∷ ((0 ∷ []) ∷ (0 ∷ 3 ∷ []) ∷ []) ∷ [] }
+    ensures behind { map (λ low. map (λ p. p.number) (applied (Promised (host 2) 10 low (codes "batch") far_carried []) busy).promises) (9 ∷ 10 ∷ [])
+        ≡ (9 ∷ 3 ∷ 10 ∷ []) ∷ (3 ∷ 10 ∷ []) ∷ [] }
     ensures taken { (applied (Accepted (host 1) 3) with_promise).rows ≡ (promise 3 3).row ∷ [] }
     ensures once { (applied (Accepted (host 1) 3) (record with_promise { rows = (promise 3 3).row ∷ [] })).rows ≡ (promise 3 3).row ∷ [] }
 {}
@@ -327,7 +349,7 @@ pub fn requests_lie()
 /// and each file, in this order.
 pub fn ticks_say_again()
     ensures early { told_at (event.Tick 59) busy ≡
-        sends 1 (body.Offer 1 (codes "batch") (record (carried 1) { hops = 3 }) (codes "date"))
+        sends 1 (body.Offer 1 1 (codes "batch") (record (carried 1) { hops = 3 }) (codes "date"))
         ∷ sends 2 (body.Commit 4) ∷ sends 2 (body.Inquire 9) ∷ sends 1 (body.Inquire 3)
         ∷ sends 1 (body.Stage 7 (codes "o") (codes "s")) ∷ sends 2 (body.Stage 1 (codes "o") (codes "s"))
         ∷ out.File 3 (codes "e") (codes "f") ∷ out.File 4 (codes "e") (codes "f") ∷ [] }

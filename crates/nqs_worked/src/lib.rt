@@ -8,6 +8,8 @@
 
 pub mod checkpoints;
 pub mod definitions;
+pub mod handovers;
+pub mod many_handovers;
 pub mod network;
 pub mod one_host;
 pub mod queue_edits;

@@ -8,7 +8,8 @@ use Rattle.nqs_types.specs.declared.request.Carried.{Carried}
 use Rattle.nqs_types.specs.declared.change.OutPart.{OutPart}
 use Rattle.nqs_types.specs.declared.change.Change.{Change}
 use Rattle.nqs_types.specs.declared.change.Change.TheVariants.{Site, Submitted, Deleted, Doomed, Started, Ended, Unlaunched, Boot, Edited, HandOpened}
-use Rattle.nqs_types.specs.declared.change.Change.TheVariants.{HandCommitted, HandRefused, HandsSilent, HandDone, Promised, Accepted, Dropped, MovedLocal}
+use Rattle.nqs_types.specs.declared.change.Change.TheVariants.{HandCommitted, HandRefused, HandsSilent, HandDone, OldPromised, Promised, Accepted, Dropped}
+use Rattle.nqs_types.specs.declared.change.Change.TheVariants.{MovedLocal}
 use Rattle.nqs_types.specs.declared.change.Change.TheVariants.{RefusedLocal, HeldFar, StageGot, StageGone, FileGone}
 use Rattle.nqs_types.specs.declared.message.Body.{Body}
 use Rattle.nqs_types.specs.declared.message.Body.TheVariants as body
@@ -24,6 +25,7 @@ use Rattle.nqs_types.specs.declared.edit.Edit.TheVariants.{Conf, Limits, Access,
 use Rattle.nqs_types.specs.declared.edit.ConfEdit.{ConfEdit}
 use Rattle.nqs_types.specs.declared.edit.ConfEdit.TheVariants.{CreateBatchQueue, CreateDeviceQueue, CreatePipeQueue, DeleteQueue, EnableQueue, DisableQueue}
 use Rattle.nqs_types.specs.declared.edit.ConfEdit.TheVariants.{StartQueue, StopQueue, PurgeQueue, SetPriority, SetRunLimit, AddDestination, RemoveDestination}
+use Rattle.nqs_types.specs.declared.edit.ConfEdit.TheVariants.{FirstDestination}
 use Rattle.nqs_types.specs.declared.edit.ConfEdit.TheVariants.{SetDefaultQueue, SetNoDefaultQueue, SetPatience, SetRetryWait}
 use Rattle.nqs_types.specs.declared.edit.LimitsEdit.{LimitsEdit}
 use Rattle.nqs_types.specs.declared.edit.LimitsEdit.TheVariants.{SetUserLimit, SetCpuLimit, SetMemoryLimit, CreateComplex, DeleteComplex, AddQueue, RemoveQueue}
@@ -62,7 +64,8 @@ bounded_parameters =
 abbrev pub free_queue_edits : List ConfEdit
 free_queue_edits =
     DeleteQueue (codes "q") ∷ EnableQueue (codes "q") ∷ DisableQueue (codes "q") ∷ StartQueue (codes "q") ∷ StopQueue (codes "q") ∷ PurgeQueue (codes "q")
-    ∷ AddDestination (typed (codes "q") (codes "h")) (codes "q") ∷ RemoveDestination (typed (codes "q") (codes "h")) (codes "q") ∷ SetDefaultQueue (codes "q")
+    ∷ AddDestination (typed (codes "q") (codes "h")) (codes "q") ∷ RemoveDestination (typed (codes "q") (codes "h")) (codes "q")
+    ∷ FirstDestination (typed (codes "q") (codes "h")) (codes "q") ∷ SetDefaultQueue (codes "q")
     ∷ SetNoDefaultQueue ∷ []
 
 -- limits of users, complexes and the host
@@ -135,7 +138,8 @@ kept_changes =
     ∷ Started (request 0 0) None ∷ Ended (request 1 0) []
     ∷ Ended (request 1 0) (part (codes "o") ∷ part (codes "e") ∷ []) ∷ Unlaunched (request 0 0) ∷ Boot ∷ Edited (Limits (SetGlobalLimit 10000))
     ∷ HandOpened (host 9) 0 (request 0 0) (codes "q") 0
-    ∷ HandCommitted (host 9) 0 ∷ HandRefused (host 9) 0 1 ∷ HandsSilent 0 [] ∷ HandDone (host 9) 0 ∷ Promised (host 9) 0 (codes "q") far_carried []
+    ∷ HandCommitted (host 9) 0 ∷ HandRefused (host 9) 0 1 ∷ HandsSilent 0 [] ∷ HandDone (host 9) 0 ∷ OldPromised (host 9) 0 (codes "q") far_carried []
+    ∷ Promised (host 9) 1 1 (codes "q") far_carried [] ∷ Promised (host 9) 7 1 (codes "q") far_carried [] ∷ Promised (host 9) 7 7 (codes "q") far_carried []
     ∷ Accepted (host 9) 0 ∷ Dropped (host 9) 0
     ∷ MovedLocal (request 0 0) (codes "q") ∷ RefusedLocal (request 0 0) (codes "q") 0 ∷ HeldFar (request 0 0) ∷ StageGot (host 9) 0 (codes "o") []
     ∷ StageGone (host 9) 0 ∷ FileGone 0 ∷ []
@@ -147,7 +151,9 @@ lost_changes =
     ∷ Submitted (codes "q") (record pathed { priority = 64 }) []
     ∷ Ended (request 1 0) (part (codes "o") ∷ part (codes "e") ∷ part (codes "x") ∷ []) ∷ Ended (request 1 0) (part bad_path ∷ [])
     ∷ Ended (request 1 0) (part (codes "o") ∷ part bad_path ∷ [])
-    ∷ Edited (Limits (SetGlobalLimit 10001)) ∷ Promised (host 0) 1 (codes "q") (record far_carried { hops = 33 }) [] ∷ StageGot (host 0) 1 bad_path [] ∷ []
+    ∷ Edited (Limits (SetGlobalLimit 10001)) ∷ OldPromised (host 0) 1 (codes "q") (record far_carried { hops = 33 }) []
+    ∷ Promised (host 0) 1 1 (codes "q") (record far_carried { hops = 33 }) [] ∷ Promised (host 0) 7 0 (codes "q") far_carried []
+    ∷ Promised (host 0) 7 8 (codes "q") far_carried [] ∷ Promised (host 0) 0 0 (codes "q") far_carried [] ∷ StageGot (host 0) 1 bad_path [] ∷ []
 
 -- a submission of such a job and such a script
 abbrev pub asked : Job → List ℕ → Command
@@ -167,16 +173,18 @@ lost_commands = asked pathed (bytes 32769) ∷ asked (record pathed { priority =
 -- datagrams within their limits, in a site of two
 abbrev pub kept_bodies : List Body
 kept_bodies =
-    body.Offer 1 (codes "q") far_carried (bytes 32768) ∷ body.Ready 1 ∷ body.Refused 1 3 ∷ body.Commit 1 ∷ body.Done 1 ∷ body.Inquire 1 ∷ body.Abort 1
+    body.Offer 1 1 (codes "q") far_carried (bytes 32768) ∷ body.Offer 7 1 (codes "q") far_carried [] ∷ body.Offer 7 7 (codes "q") far_carried []
+    ∷ body.Ready 1 ∷ body.Refused 1 3 ∷ body.Commit 1 ∷ body.Done 1 ∷ body.Inquire 1 ∷ body.Abort 1
     ∷ body.Stage 1 (codes "o") (bytes 32768) ∷ body.Staged 1
     ∷ body.Ask 1 1 (codes "ann") Qmgr [] [] ∷ body.Answer 1 true [] ∷ body.Ended 1 (request 1 0) 1 0 [] [] ∷ body.EndedAck (request 1 0) 1 ∷ []
 
 -- datagrams beyond them
 abbrev pub lost_bodies : List Body
 lost_bodies =
-    body.Offer 0 (codes "q") far_carried [] ∷ body.Offer 1 (codes "q") (record far_carried { hops = 33 }) []
-    ∷ body.Offer 1 (codes "q") (record far_carried { id = request 3 2 }) []
-    ∷ body.Offer 1 (codes "q") far_carried (bytes 32769) ∷ body.Refused 0 3 ∷ body.Refused 1 4 ∷ body.Stage 0 (codes "o") [] ∷ body.Stage 1 bad_path []
+    body.Offer 0 0 (codes "q") far_carried [] ∷ body.Offer 7 0 (codes "q") far_carried [] ∷ body.Offer 7 8 (codes "q") far_carried []
+    ∷ body.Offer 1 1 (codes "q") (record far_carried { hops = 33 }) []
+    ∷ body.Offer 1 1 (codes "q") (record far_carried { id = request 3 2 }) []
+    ∷ body.Offer 1 1 (codes "q") far_carried (bytes 32769) ∷ body.Refused 0 3 ∷ body.Refused 1 4 ∷ body.Stage 0 (codes "o") [] ∷ body.Stage 1 bad_path []
     ∷ body.Stage 1 (codes "o") (bytes 32769) ∷ []
 
 -- a datagram from a host, in a site of two

@@ -15,6 +15,7 @@ use Rattle.nqs_types.specs.declared.edit.Edit.{Edit}
 use Rattle.nqs_types.specs.declared.edit.Edit.TheVariants.{Conf, Limits, Access, Devices, Rows}
 use Rattle.nqs_types.specs.declared.edit.ConfEdit.TheVariants.{CreateBatchQueue, CreateDeviceQueue, CreatePipeQueue, DeleteQueue, EnableQueue, DisableQueue}
 use Rattle.nqs_types.specs.declared.edit.ConfEdit.TheVariants.{StartQueue, StopQueue, PurgeQueue, SetPriority, SetRunLimit, AddDestination, RemoveDestination}
+use Rattle.nqs_types.specs.declared.edit.ConfEdit.TheVariants.{FirstDestination}
 use Rattle.nqs_types.specs.declared.edit.ConfEdit.TheVariants.{SetDefaultQueue, SetNoDefaultQueue, SetPatience, SetRetryWait}
 use Rattle.nqs_types.specs.declared.edit.LimitsEdit.TheVariants.{SetUserLimit, SetCpuLimit, SetMemoryLimit, CreateComplex, DeleteComplex, AddQueue, RemoveQueue}
 use Rattle.nqs_types.specs.declared.edit.LimitsEdit.TheVariants.{SetComplexLimit, SetGlobalLimit}
@@ -47,6 +48,7 @@ queue_edits_of_managers =
     ∷ Conf (CreatePipeQueue (codes "q") None None false None)
     ∷ Conf (DeleteQueue (codes "q")) ∷ Conf (SetPriority 1 (codes "q")) ∷ Conf (SetRunLimit 1 (codes "q"))
     ∷ Conf (AddDestination (typed (codes "q") (codes "beta")) (codes "q")) ∷ Conf (RemoveDestination (typed (codes "q") (codes "beta")) (codes "q"))
+    ∷ Conf (FirstDestination (typed (codes "q") (codes "beta")) (codes "q"))
     ∷ Conf (SetDefaultQueue (codes "q")) ∷ Conf SetNoDefaultQueue ∷ Conf (SetPatience 1) ∷ Conf (SetRetryWait 1) ∷ []
 
 -- the other edits that only managers may make

@@ -1,5 +1,5 @@
 -- States in which all but one thing that a change needs is there.
-use Rattle.std.specs.Prelude.{ℕ, Bool, List, [], ◌∷◌, map, codes}
+use Rattle.std.specs.Prelude.{ℕ, Bool, List, [], ◌∷◌, ◌++◌, map, replicate, codes}
 use Rattle.nqs_state.specs.State.{Plain}
 use Rattle.nqs_rules.specs.Format.{first_queue, new_peer}
 use Rattle.nqs_rules.specs.Fits.{fits}
@@ -44,15 +44,20 @@ route r p hands = record fresh {
 abbrev pub opening : Change (List ℕ)
 opening = HandOpened (host 1) 4 (request 1 0) (codes "any") 0
 
--- states that it fits: the first three, and none behind them
+-- states that it fits: the first seven, and none behind them
 abbrev pub opening_bounds : List Plain
 opening_bounds =
     route (queued 1) (record new_peer { next = 4 }) [] ∷ route (record (queued 1) { hops = 31 }) (record new_peer { next = 4 }) []
-    ∷ route (queued 1) (record new_peer { next = 4 }) (hand 2 6 (request 2 0) Offered ∷ [])
-    ∷ route (record (queued 1) { hops = 32 }) (record new_peer { next = 4 }) [] ∷ route (queued 1) (record new_peer { next = 3 }) []
-    ∷ route (queued 1) (record new_peer { next = 5 }) []
+    ∷ route (queued 1) (record new_peer { next = 4 }) (replicate 8 (hand 2 6 (request 2 0) Offered))
     ∷ route (queued 1) (record new_peer { next = 4 }) (hand 1 3 (request 2 0) Offered ∷ [])
     ∷ route (queued 1) (record new_peer { next = 4 }) (hand 1 3 (request 2 0) Committed ∷ [])
+    ∷ route (queued 1) (record new_peer { next = 4 }) (replicate 7 (hand 1 3 (request 2 0) Offered))
+    ∷ route (queued 1) (record new_peer { next = 4 }) (replicate 7 (hand 1 3 (request 2 0) Committed))
+    ∷ route (record (queued 1) { hops = 32 }) (record new_peer { next = 4 }) [] ∷ route (queued 1) (record new_peer { next = 3 }) []
+    ∷ route (queued 1) (record new_peer { next = 5 }) []
+    ∷ route (queued 1) (record new_peer { next = 4 }) (replicate 8 (hand 1 3 (request 2 0) Offered))
+    ∷ route (queued 1) (record new_peer { next = 4 }) (replicate 8 (hand 1 3 (request 2 0) Committed))
+    ∷ route (queued 1) (record new_peer { next = 4 }) (replicate 4 (hand 1 3 (request 2 0) Offered) ++ replicate 4 (hand 1 3 (request 2 0) Committed))
     ∷ route (record (queued 1) { hold = User }) (record new_peer { next = 4 }) []
     ∷ route (record (queued 1) { state = Running }) (record new_peer { next = 4 }) []
     ∷ route (queued 2) (record new_peer { next = 4 }) [] ∷ []
@@ -61,15 +66,20 @@ opening_bounds =
 abbrev pub last_opening : ℕ → Bool
 last_opening n = fitting (HandOpened (host 1) n (request 1 0) (codes "any") 0) (route (queued 1) (record new_peer { next = n }) [])
 
+-- a handover under a number, beside one under 1
+abbrev pub opening_behind : ℕ → Bool
+opening_behind n =
+    fitting (HandOpened (host 1) n (request 1 0) (codes "any") 0) (route (queued 1) (record new_peer { next = n }) (hand 1 1 (request 2 0) Committed ∷ []))
+
 -- a host that has closed the numbers of the second one up to 4, and has promised it 7
 abbrev pub promising : Plain
-promising = record (route (queued 1) (record new_peer { closed = 4 }) []) { promises = promise 7 7 ∷ [] }
+promising = record (route (queued 1) (record new_peer { floor = 4 }) []) { promises = promise 7 7 ∷ [] }
 
 -- a request of the second host under a number
 abbrev pub promised : ℕ → Change (List ℕ)
-promised n = Promised (host 1) n (codes "batch") far_carried []
+promised n = Promised (host 1) n 1 (codes "batch") far_carried []
 
--- the host is so full that the next promise is one too many, unless it takes the place of another
--- one
-abbrev pub full_for : ℕ → ℕ → Bool
-full_for peer n = fitting (Promised (host peer) 9 (codes "batch") far_carried []) (crowded n)
+-- a promise to a host, with this low, where so many rows are there and a promise of the second one
+-- under the number 3
+abbrev pub full_for : ℕ → ℕ → ℕ → Bool
+full_for peer low n = fitting (Promised (host peer) 9 low (codes "batch") far_carried []) (crowded n)

@@ -20,7 +20,7 @@ use Rattle.nqs_types.specs.declared.queue.Kind.{Kind}
 use Rattle.nqs_types.specs.declared.queue.Access.TheVariants.{All}
 use Rattle.nqs_types.specs.declared.queue.QueueDef.{QueueDef}
 use Rattle.nqs_types.specs.declared.change.Change.{Change}
-use Rattle.nqs_types.specs.declared.change.Change.TheVariants.{Submitted, Ended, Promised, StageGot, Boot, Edited}
+use Rattle.nqs_types.specs.declared.change.Change.TheVariants.{Submitted, Ended, OldPromised, Promised, StageGot, Boot, Edited}
 use Rattle.nqs_types.specs.declared.change.OutPart.{OutPart}
 use Rattle.nqs_base.specs.declared.extent.Extent.{Extent}
 use Rattle.nqs_types.specs.declared.edit.Edit.{Edit}
@@ -123,7 +123,7 @@ peers_are second third s = record s { peers = new_peer ∷ second ∷ third ∷ 
 abbrev pub stored_changes : List (Change (List ℕ))
 stored_changes =
     Submitted (codes "q") pathed (codes "s") ∷ Ended (request 1 0) (part (codes "o") ∷ part (codes "e") ∷ [])
-    ∷ Promised (host 1) 1 (codes "q") far_carried (codes "s")
+    ∷ OldPromised (host 1) 1 (codes "q") far_carried (codes "s") ∷ Promised (host 1) 1 1 (codes "q") far_carried (codes "s")
     ∷ StageGot (host 1) 1 (codes "o") (codes "b") ∷ Boot ∷ []
 
 -- an output at a path that no extent is known of yet

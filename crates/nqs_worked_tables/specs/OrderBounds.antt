@@ -101,9 +101,9 @@ wrong_rows =
     ∷ record (on_the_way 0) { device = Some (codes "laser") }
     ∷ record (queued 1) { hops = 33 } ∷ record (started 1 0) { hops = 33 } ∷ on_the_way 32 ∷ record (on_the_way 0) { starts = 1 } ∷ []
 
--- a promise under a number to a host whose closed number is 2
+-- a promise under a number to a host whose numbers are closed up to 2, and 4
 abbrev pub is_promise_of_home : Promise (List ℕ) → Bool
-is_promise_of_home p = is_promise_right (record (home (queued 1)) { peers = new_peer ∷ record new_peer { closed = 2 } ∷ [] }) p
+is_promise_of_home p = is_promise_right (record (home (queued 1)) { peers = new_peer ∷ record new_peer { floor = 2; closed = 4 ∷ [] } ∷ [] }) p
 
 -- a promise with this row
 abbrev pub promise_with : Row (List ℕ) → Promise (List ℕ)
@@ -112,7 +112,8 @@ promise_with r = record (promise 3 3) { row = r }
 -- promises: the first two may be, and none behind them
 abbrev pub promise_bounds : List (Promise (List ℕ))
 promise_bounds =
-    promise 3 3 ∷ promise 9 9 ∷ promise 2 3 ∷ promise 0 3 ∷ record (promise 3 3) { peer = host 2 } ∷ promise_with (started 1 0) ∷ promise_with (on_the_way 1)
+    promise 3 3 ∷ promise 9 9 ∷ promise 2 3 ∷ promise 4 3 ∷ promise 0 3 ∷ record (promise 3 3) { peer = host 2 }
+    ∷ promise_with (started 1 0) ∷ promise_with (on_the_way 1)
     ∷ promise_with (record (queued 1) { hops = 33 })
     ∷ promise_with (record (queued 1) { queue = codes "nope" }) ∷ []
 

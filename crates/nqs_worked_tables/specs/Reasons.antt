@@ -1,5 +1,5 @@
 -- Small hosts in which several conditions of a start fail at once.
-use Rattle.std.specs.Prelude.{ℕ, Bool, true, false, List, [], ◌∷◌, ◌++◌, map, codes, Option, None, Some}
+use Rattle.std.specs.Prelude.{ℕ, Bool, true, false, List, [], ◌∷◌, ◌++◌, map, replicate, codes, Option, None, Some}
 use Rattle.nqs_state.specs.State.{Plain}
 use Rattle.nqs_rules.specs.Format.{first_queue, new_peer}
 use Rattle.nqs_worked.specs.ScheduleWords.{host, request, job_of}
@@ -73,13 +73,13 @@ abbrev pub to_print : Option (List ℕ) → Row (List ℕ)
 to_print forms = record (queued 9) { queue = codes "lp"; job = record (job_of (codes "ann")) { forms = forms } }
 
 -- A host whose pipe queue link has a destination on the other host, to which a request of ann's is
--- on its way. The queue is started or not, with these limits.
+-- on its way, and eight handovers are open. The queue is started or not, with these limits.
 abbrev pub moving : Bool → Option ℕ → ℕ → Plain
 moving started user run = record fresh {
   queues = record link { started = started; user_limit = user; run_limit = run } ∷ [];
   complexes = record { name = codes "one"; limit = 0; queues = codes "link" ∷ [] } ∷ [];
   rows = record (queued 1) { queue = codes "link"; state = Routing } ∷ [];
-  hands = record { peer = host 1; number = 1; id = request 1 0; queue = codes "batch"; since = 7; phase = Committed } ∷ [];
+  hands = replicate 8 (record { peer = host 1; number = 1; id = request 1 0; queue = codes "batch"; since = 7; phase = Committed });
   global_limit = 0;
 }
 
@@ -127,7 +127,7 @@ abbrev pub asked : Plain → Row (List ℕ) → List (List ℕ)
 asked s r = why_lines 50 (record s { rows = s.rows ++ r ∷ [] }) r
 
 -- The host of `moving`, whose queue link has two destinations: one on the other host, which is
--- being handed a request, and one here.
+-- being handed eight requests, and one here.
 abbrev pub parting : Plain
 parting = record (moving true None 2) { queues = record link { started = true; run_limit = 2; dests = far ∷ near ∷ [] } ∷ [] }
 

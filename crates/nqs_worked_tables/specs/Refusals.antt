@@ -152,7 +152,7 @@ submitted_to sub s = first_refusal (submit_causes sub s)
 
 -- how an offer by the first host to the queue batch is refused
 abbrev pub offered_to : Carried → Plain → Answer
-offered_to c s = first_refusal (offer_causes (host 0) (codes "batch") c s)
+offered_to c s = first_refusal (offer_causes (host 0) 1 (codes "batch") c s)
 
 -- how the queue batch as a destination on this host refuses a row
 abbrev pub moved_to : Row (List ℕ) → Plain → Answer

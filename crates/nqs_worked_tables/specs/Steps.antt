@@ -27,7 +27,7 @@ Done = Stepped (List ℕ)
 -- to 2 and 8 it has closed what they number; it took the second's stages up to 6.
 abbrev pub party : Plain
 party = record busy {
-  peers = new_peer ∷ record new_peer { next = 2; closed = 2; stage_next = 9; stage_got = 6 } ∷ record new_peer { next = 5; closed = 8; stage_next = 3 } ∷ [];
+  peers = new_peer ∷ record new_peer { next = 2; floor = 2; stage_next = 9; stage_got = 6 } ∷ record new_peer { next = 5; floor = 8; stage_next = 3 } ∷ [];
   file_next = 5;
   seq = 9;
   arrivals = 9;

@@ -16,7 +16,7 @@ ghost use Rattle.nqs_worked_tables.specs.Bounds.{lost_commands, kept_bodies, los
 pub fn edits_have_bounds()
     ensures queues { map is_conf_within bounded_queue_edits ≡ true ∷ false ∷ false ∷ true ∷ false ∷ false ∷ true ∷ false ∷ false ∷ true ∷ true ∷ true ∷ [] }
     ensures parameters { map is_conf_within bounded_parameters ≡ true ∷ false ∷ true ∷ false ∷ false ∷ true ∷ true ∷ false ∷ false ∷ true ∷ true ∷ false ∷ [] }
-    ensures no_number { map is_conf_within free_queue_edits ≡ replicate 10 true }
+    ensures no_number { map is_conf_within free_queue_edits ≡ replicate 11 true }
     ensures limits { map is_limits_within bounded_limits ≡ true ∷ true ∷ false ∷ true ∷ false ∷ true ∷ false ∷ [] }
     ensures no_limit { map is_limits_within free_limits ≡ replicate 7 true }
     ensures rows { map is_rows_within row_edits ≡ true ∷ false ∷ true ∷ true ∷ true ∷ true ∷ [] }
@@ -36,8 +36,8 @@ pub fn jobs_have_bounds()
 
 /// The values of each kind of change.
 pub fn changes_have_bounds()
-    ensures kept { map is_sane_change kept_changes ≡ replicate 25 true }
-    ensures lost { map is_sane_change lost_changes ≡ replicate 11 false }
+    ensures kept { map is_sane_change kept_changes ≡ replicate 28 true }
+    ensures lost { map is_sane_change lost_changes ≡ replicate 15 false }
 {}
 
 /// Scripts to 32,768 bytes, outputs of an end to 16,384 each, numbers from 1 on, senders and
@@ -49,8 +49,8 @@ pub fn events_have_bounds()
     ensures other_refusals { map is_offer_refusal (0 ∷ 1 ∷ 2 ∷ 4 ∷ 5 ∷ 6 ∷ 7 ∷ 8 ∷ 9 ∷ 10 ∷ 11 ∷ 12 ∷ 13 ∷ 14 ∷ 15 ∷ 16 ∷ 17 ∷ 18 ∷ 20 ∷ 22 ∷ 23 ∷ 24 ∷ 25 ∷ 26
         ∷ 27 ∷ 30 ∷ 34 ∷ []) ≡ replicate 27 false }
     ensures places { map (λ n. is_of_site 2 (host n)) (0 ∷ 1 ∷ 2 ∷ []) ≡ true ∷ true ∷ false ∷ [] }
-    ensures bodies { map (is_sane_body 2) kept_bodies ≡ replicate 13 true }
-    ensures no_bodies { map (is_sane_body 2) lost_bodies ≡ replicate 9 false }
+    ensures bodies { map (is_sane_body 2) kept_bodies ≡ replicate 15 true }
+    ensures no_bodies { map (is_sane_body 2) lost_bodies ≡ replicate 11 false }
     ensures events { map (is_sane_event 2) kept_events ≡ replicate 7 true }
     ensures no_events { map (is_sane_event 2) lost_events ≡ replicate 5 false }
 {}

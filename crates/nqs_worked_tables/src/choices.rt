@@ -1,6 +1,6 @@
 //! What is started next: limits at their bounds, the order of rows and queues, devices,
 //! destinations, and the start itself.
-ghost use Rattle.std.specs.Prelude.{◌≡◌, codes, [], ◌∷◌, map, replicate, true, false, None, Some};
+ghost use Rattle.std.specs.Prelude.{◌≡◌, codes, [], ◌∷◌, ◌++◌, map, replicate, true, false, None, Some};
 ghost use Rattle.nqs_types.specs.declared.request.RowState.TheVariants.{Running, Routing};
 ghost use Rattle.nqs_types.specs.declared.request.Hold.TheVariants.{User, System};
 ghost use Rattle.nqs_types.specs.declared.request.Phase.TheVariants.{Offered, Committed};
@@ -81,9 +81,13 @@ pub fn destinations_are_tried()
     ensures free { map (λ p. sent_to (crossing p []) (in_link 1)) (new_peer ∷ record new_peer { wait = 50 } ∷ record new_peer { wait = 51 }
         ∷ record new_peer { next = 18446744073709551614 } ∷ record new_peer { next = 18446744073709551615 } ∷ [])
         ≡ Some 0 ∷ Some 0 ∷ Some 1 ∷ Some 0 ∷ Some 1 ∷ [] }
-    ensures taken { map (λ hs. sent_to (crossing new_peer hs) (in_link 1)) ((hand 1 1 (request 2 0) Offered ∷ []) ∷ (hand 1 1 (request 2 0) Committed ∷ [])
-        ∷ (hand 2 1 (request 2 0) Offered ∷ []) ∷ (hand 2 1 (request 2 0) Offered ∷ hand 1 1 (request 2 0) Committed ∷ []) ∷ [])
-        ≡ Some 1 ∷ Some 1 ∷ Some 0 ∷ Some 2 ∷ [] }
+    ensures taken { map (λ hs. sent_to (crossing new_peer hs) (in_link 1)) (replicate 7 (hand 1 1 (request 2 0) Offered)
+        ∷ replicate 8 (hand 1 1 (request 2 0) Offered)
+        ∷ replicate 8 (hand 1 1 (request 2 0) Committed) ∷ replicate 8 (hand 2 1 (request 2 0) Offered)
+        ∷ (replicate 8 (hand 2 1 (request 2 0) Offered) ++ replicate 8 (hand 1 1 (request 2 0) Committed)) ∷ [])
+        ≡ Some 0 ∷ Some 1 ∷ Some 1 ∷ Some 0 ∷ Some 2 ∷ [] }
+    ensures window { map (λ n. sent_to (crossing (record new_peer { next = n }) (hand 2 1 (request 2 0) Offered ∷ hand 1 4 (request 2 0) Committed ∷ []))
+        (in_link 1)) (5 ∷ 67 ∷ 68 ∷ []) ≡ Some 0 ∷ Some 0 ∷ Some 1 ∷ [] }
     ensures refused { map (λ ds. sent_to (crossing new_peer []) (refused_by_each ds)) ((to 1 ∷ []) ∷ (to 2 ∷ []) ∷ (to 2 ∷ to 1 ∷ [])
         ∷ (to 0 ∷ to 1 ∷ to 2 ∷ []) ∷ (record (to 1) { queue = codes "night" } ∷ []) ∷ []) ≡ Some 1 ∷ Some 0 ∷ Some 2 ∷ None ∷ Some 0 ∷ [] }
     ensures own_host { sent_to (record (crossing new_peer []) { peers = record new_peer { wait = 99 } ∷ new_peer ∷ new_peer ∷ [] }) (refused_by_each (to 1
@@ -140,7 +144,7 @@ pub fn starts_are_made()
     ensures far { start 50 (crossing_with (record (in_link 1) { hops = 32 })) ≡ Some (makes (HeldFar (request 1 0)) []) }
     ensures hand { start 50 (crossing_with (record (in_link 1) { hops = 7; starts = 2; lost = 2; script = codes "date" }))
         ≡ Some (makes (HandOpened (host 1) 5 (request 1 0) (codes "batch") 50)
-        ((message (host 0) (host 1) (body.Offer 5 (codes "batch") (record (carried 1) { starts = 2; lost = 2; hops = 8 }) []), Some (codes "date")) ∷ [])) }
+        ((message (host 0) (host 1) (body.Offer 5 5 (codes "batch") (record (carried 1) { starts = 2; lost = 2; hops = 8 }) []), Some (codes "date")) ∷ [])) }
     ensures here { map (λ d. start 50 (record (crossing_with (refused_by_each (to 1 ∷ to 2 ∷ []))) { queues = d ∷ fork ∷ [] })) (first_queue
         ∷ record first_queue { enabled = false } ∷ record first_queue { pipe_only = true } ∷ night ∷ [])
         ≡ Some (makes (MovedLocal (request 1 0) (codes "batch")) []) ∷ Some (makes (RefusedLocal (request 1 0) (codes "batch") 19) [])

@@ -10,7 +10,7 @@ ghost use Rattle.nqs_worked_tables.specs.Commands.{ranks_of};
 /// anybody may do all else.
 pub fn commands_have_ranks()
     ensures operators { map edit_answers edits_of_operators ≡ replicate 13 (Ok tt ∷ Ok tt ∷ Err NotOperator ∷ []) }
-    ensures queues { map edit_answers queue_edits_of_managers ≡ replicate 12 (Ok tt ∷ Err NotManager ∷ Err NotManager ∷ []) }
+    ensures queues { map edit_answers queue_edits_of_managers ≡ replicate 13 (Ok tt ∷ Err NotManager ∷ Err NotManager ∷ []) }
     ensures others { map edit_answers other_edits_of_managers ≡ replicate 21 (Ok tt ∷ Err NotManager ∷ Err NotManager ∷ []) }
     ensures shutdown { answers Shutdown ≡ Ok tt ∷ Err NotManager ∷ Err NotManager ∷ [] }
     ensures anybody { map answers open_commands ≡ replicate 7 (Ok tt ∷ Ok tt ∷ Ok tt ∷ []) }

@@ -1,7 +1,8 @@
 //! Which changes fit: each thing that a change needs, there and not there.
 ghost use Rattle.std.specs.Prelude.{◌≡◌, codes, [], ◌∷◌, ◌++◌, map, replicate, true, false, None, Some};
 ghost use Rattle.nqs_types.specs.declared.change.Change.TheVariants.{Submitted, Deleted, Doomed, Started, Ended, Unlaunched, Boot, Edited, HandOpened};
-ghost use Rattle.nqs_types.specs.declared.change.Change.TheVariants.{HandCommitted, HandRefused, HandsSilent, HandDone, Promised, Accepted, Dropped};
+ghost use Rattle.nqs_types.specs.declared.change.Change.TheVariants.{HandCommitted, HandRefused, HandsSilent, HandDone, OldPromised, Promised, Accepted};
+ghost use Rattle.nqs_types.specs.declared.change.Change.TheVariants.{Dropped};
 ghost use Rattle.nqs_types.specs.declared.change.Change.TheVariants.{MovedLocal, RefusedLocal, HeldFar, StageGot, StageGone, FileGone};
 ghost use Rattle.nqs_types.specs.declared.edit.Edit.TheVariants.{Conf, Limits, Access, Devices, Rows};
 ghost use Rattle.nqs_types.specs.declared.edit.ConfEdit.TheVariants.{EnableQueue};
@@ -15,7 +16,8 @@ ghost use Rattle.nqs_worked.specs.ScheduleWords.{host, request};
 ghost use Rattle.nqs_worked.specs.Definitions.{fresh, queued, far_carried, crowded, fit_each, busy};
 ghost use Rattle.nqs_worked_tables.specs.Bounds.{pathed};
 ghost use Rattle.nqs_worked_tables.specs.Refusals.{full_house};
-ghost use Rattle.nqs_worked_tables.specs.Fitting.{fitting, fits_each, fits_of_each_kind, route, opening, opening_bounds, last_opening, promising, promised};
+ghost use Rattle.nqs_worked_tables.specs.Fitting.{fitting, fits_each, fits_of_each_kind, route, opening, opening_bounds, last_opening, opening_behind};
+ghost use Rattle.nqs_worked_tables.specs.Fitting.{promising, promised};
 ghost use Rattle.nqs_worked_tables.specs.Fitting.{full_for};
 
 /// Changes of one request: of one that is queued, runs, is on its way, is held by the user, by the
@@ -57,8 +59,9 @@ pub fn numbers_fit()
 
 /// Handovers, from the side of the source.
 pub fn handovers_fit()
-    ensures opened { fits_each opening opening_bounds ≡ replicate 3 true ++ replicate 8 false }
+    ensures opened { fits_each opening opening_bounds ≡ replicate 7 true ++ replicate 9 false }
     ensures last { map last_opening (18446744073709551614 ∷ 18446744073709551615 ∷ []) ≡ true ∷ false ∷ [] }
+    ensures window { map opening_behind (64 ∷ 65 ∷ []) ≡ true ∷ false ∷ [] }
     ensures committed { fit_each (HandCommitted (host 1) 1 ∷ HandCommitted (host 2) 4 ∷ HandCommitted (host 1) 4 ∷ HandCommitted (host 2) 1 ∷ []) busy
         ≡ true ∷ false ∷ false ∷ false ∷ [] }
     ensures refused { fit_each (HandRefused (host 1) 1 3 ∷ HandRefused (host 2) 4 3 ∷ HandRefused (host 1) 4 3 ∷ []) busy ≡ true ∷ false ∷ false ∷ [] }
@@ -71,15 +74,20 @@ pub fn handovers_fit()
 /// Promises, stages and files.
 pub fn promises_fit()
     ensures numbers { map (λ n. fitting (promised n) promising) (4 ∷ 5 ∷ 7 ∷ 8 ∷ []) ≡ false ∷ true ∷ false ∷ true ∷ [] }
-    ensures queues { map (λ q. fitting (Promised (host 1) 8 q far_carried []) promising) (codes "batch" ∷ codes "link" ∷ codes "nope" ∷ [])
+    ensures queues { map (λ q. fitting (Promised (host 1) 8 1 q far_carried []) promising) (codes "batch" ∷ codes "link" ∷ codes "nope" ∷ [])
         ≡ true ∷ true ∷ false ∷ [] }
-    ensures peers { map (λ n. fitting (Promised (host n) 8 (codes "batch") far_carried []) promising) (0 ∷ 2 ∷ 3 ∷ []) ≡ true ∷ true ∷ false ∷ [] }
-    ensures requests { map (λ id. fitting (Promised (host 1) 8 (codes "batch") (record far_carried { id = id }) []) promising) (request 1 0 ∷ request 1 1
+    ensures peers { map (λ n. fitting (Promised (host n) 8 1 (codes "batch") far_carried []) promising) (0 ∷ 2 ∷ 3 ∷ []) ≡ true ∷ true ∷ false ∷ [] }
+    ensures requests { map (λ id. fitting (Promised (host 1) 8 1 (codes "batch") (record far_carried { id = id }) []) promising) (request 1 0 ∷ request 1 1
         ∷ request 9 0 ∷ request 10 0 ∷ request 10 2 ∷ request 1 3 ∷ []) ≡ false ∷ true ∷ true ∷ false ∷ true ∷ false ∷ [] }
     ensures arrivals { map (λ n. fitting (promised 8) (record promising { arrivals = n })) (18446744073709551614 ∷ 18446744073709551615 ∷ [])
         ≡ true ∷ false ∷ [] }
-    ensures room { map (λ n. full_for 0 n) (9998 ∷ 9999 ∷ []) ≡ true ∷ false ∷ [] }
-    ensures room_of_its_own { map (λ n. full_for 1 n) (9999 ∷ 10000 ∷ []) ≡ true ∷ false ∷ [] }
+    ensures room { map (λ n. full_for 0 4 n) (9998 ∷ 9999 ∷ []) ≡ true ∷ false ∷ [] }
+    ensures room_of_its_own { map (λ n. full_for 1 4 n) (9999 ∷ 10000 ∷ []) ≡ true ∷ false ∷ [] }
+    ensures room_below { map (λ low. full_for 1 low 9999) (1 ∷ 3 ∷ 4 ∷ 9 ∷ []) ≡ false ∷ false ∷ true ∷ true ∷ [] }
+    ensures old { fit_each (OldPromised (host 1) 4 (codes "batch") far_carried [] ∷ OldPromised (host 1) 5 (codes "batch") far_carried []
+        ∷ OldPromised (host 1) 7 (codes "batch") far_carried [] ∷ OldPromised (host 1) 8 (codes "nope") far_carried [] ∷ []) promising
+        ≡ false ∷ true ∷ false ∷ false ∷ [] }
+    ensures old_room { map (λ n. fitting (OldPromised (host 1) n (codes "batch") far_carried []) (crowded 9999)) (2 ∷ 4 ∷ []) ≡ false ∷ true ∷ [] }
     ensures promises { fit_each (Accepted (host 1) 7 ∷ Accepted (host 2) 7 ∷ Accepted (host 1) 8 ∷ Dropped (host 1) 7 ∷ Dropped (host 2) 7 ∷ Dropped (host 1) 8
         ∷ []) promising ≡ true ∷ false ∷ false ∷ true ∷ false ∷ false ∷ [] }
     ensures got { map (λ n. fitting (StageGot (host 1) n (codes "o") []) (route (queued 1) (record new_peer { stage_got = 4 }) [])) (3 ∷ 4 ∷ 5 ∷ 9 ∷ [])

@@ -6,12 +6,14 @@ ghost use Rattle.nqs_types.specs.declared.request.Phase.TheVariants.{Offered, Co
 ghost use Rattle.nqs_types.specs.declared.queue.Kind.TheVariants.{Batch, Device, Pipe};
 ghost use Rattle.nqs_types.specs.declared.queue.Access.TheVariants.{Users};
 ghost use Rattle.nqs_types.specs.declared.change.Change.TheVariants.{Site, Submitted, Deleted, Doomed, Started, Ended, Unlaunched, Boot, Edited, HandOpened};
-ghost use Rattle.nqs_types.specs.declared.change.Change.TheVariants.{HandCommitted, HandRefused, HandsSilent, HandDone, Promised, Accepted, Dropped};
+ghost use Rattle.nqs_types.specs.declared.change.Change.TheVariants.{HandCommitted, HandRefused, HandsSilent, HandDone, OldPromised, Promised, Accepted};
+ghost use Rattle.nqs_types.specs.declared.change.Change.TheVariants.{Dropped};
 ghost use Rattle.nqs_types.specs.declared.change.Change.TheVariants.{MovedLocal, RefusedLocal, HeldFar, StageGot, StageGone, FileGone};
 ghost use Rattle.nqs_types.specs.declared.edit.Edit.TheVariants.{Conf, Limits, Access, Devices, Rows};
 ghost use Rattle.nqs_types.specs.declared.edit.ConfEdit.TheVariants.{CreateBatchQueue, CreateDeviceQueue, CreatePipeQueue, DeleteQueue, EnableQueue};
 ghost use Rattle.nqs_types.specs.declared.edit.ConfEdit.TheVariants.{DisableQueue, StartQueue, StopQueue, PurgeQueue, SetPriority, SetRunLimit, AddDestination};
-ghost use Rattle.nqs_types.specs.declared.edit.ConfEdit.TheVariants.{RemoveDestination, SetDefaultQueue, SetNoDefaultQueue, SetPatience, SetRetryWait};
+ghost use Rattle.nqs_types.specs.declared.edit.ConfEdit.TheVariants.{RemoveDestination, FirstDestination, SetDefaultQueue, SetNoDefaultQueue, SetPatience};
+ghost use Rattle.nqs_types.specs.declared.edit.ConfEdit.TheVariants.{SetRetryWait};
 ghost use Rattle.nqs_types.specs.declared.edit.LimitsEdit.TheVariants.{SetUserLimit, SetCpuLimit, SetMemoryLimit, CreateComplex, DeleteComplex, AddQueue};
 ghost use Rattle.nqs_types.specs.declared.edit.LimitsEdit.TheVariants.{RemoveQueue, SetComplexLimit, SetGlobalLimit};
 ghost use Rattle.nqs_types.specs.declared.edit.AccessEdit.TheVariants.{SetUnrestrictedAccess, SetNoAccess, AddUser, RemoveUser, AddManager, RemoveManager};
@@ -74,6 +76,10 @@ pub fn queues_are_changed()
       dests = near ∷ far
           ∷ record far { queue = codes "y" } ∷ [];
     } ∷ [])) ≡ queues_are (record link { dests = near ∷ record far { queue = codes "y" } ∷ [] } ∷ []) }
+    ensures first_dest { applied (Edited (Conf (FirstDestination (to_beta (codes "batch")) (codes "link")))) (queues_are (record link {
+      dests = near ∷ far
+          ∷ record far { queue = codes "y" } ∷ [];
+    } ∷ [])) ≡ queues_are (record link { dests = far ∷ near ∷ record far { queue = codes "y" } ∷ [] } ∷ []) }
     ensures parameters { map edited (Conf (SetDefaultQueue (codes "lp")) ∷ Conf SetNoDefaultQueue ∷ Conf (SetPatience 3) ∷ Conf (SetRetryWait 4)
         ∷ Limits (SetGlobalLimit 5) ∷ [])
         ≡ record full_house { default_queue = Some (codes "lp") } ∷ record full_house { default_queue = None } ∷ record full_house { patience = 3 }
@@ -154,7 +160,8 @@ pub fn rows_are_edited()
 pub fn changes_are_whole()
     ensures site { applied (Site (host 1) two_hosts) full_house ≡ formatted (host 1) two_hosts }
     ensures replaced { map (map_change (λ b. b)) kept_changes ≡ kept_changes }
-    ensures parts { map stored_parts stored_changes ≡ (codes "s" ∷ []) ∷ (codes "b" ∷ codes "b" ∷ []) ∷ (codes "s" ∷ []) ∷ (codes "b" ∷ []) ∷ [] ∷ [] }
+    ensures parts { map stored_parts stored_changes ≡ (codes "s" ∷ []) ∷ (codes "b" ∷ codes "b" ∷ []) ∷ (codes "s" ∷ []) ∷ (codes "s" ∷ []) ∷ (codes "b" ∷ [])
+        ∷ [] ∷ [] }
     ensures planned { (plan_of planned).change ≡ Some (Ended (request 1 0) (part_of_extent (codes "o") ∷ part_of_extent (codes "e") ∷ [])) }
 {}
 
@@ -243,8 +250,9 @@ pub fn outputs_are_made()
 /// A handover is opened, committed, refused, silent or done.
 pub fn handovers_are_made()
     ensures opened { applied (HandOpened (host 1) 4 (request 1 0) (codes "any") 50)
-        (route (queued 1) (record new_peer { next = 4; closed = 2; wait = 5; stage_next = 6; stage_got = 8 }) (hand 2 6 (request 2 0) Committed ∷ []))
-        ≡ route (record (queued 1) { state = Routing }) (record new_peer { next = 5; closed = 2; wait = 5; stage_next = 6; stage_got = 8 })
+        (route (queued 1) (record new_peer { next = 4; floor = 2; closed = 7 ∷ []; wait = 5; stage_next = 6; stage_got = 8 })
+        (hand 2 6 (request 2 0) Committed ∷ []))
+        ≡ route (record (queued 1) { state = Routing }) (record new_peer { next = 5; floor = 2; closed = 7 ∷ []; wait = 5; stage_next = 6; stage_got = 8 })
         (hand 2 6 (request 2 0) Committed ∷ record { peer = host 1; number = 4; id = request 1 0; queue = codes "any"; since = 50; phase = Offered } ∷ []) }
     ensures committed { applied (HandCommitted (host 1) 1) in_doubt
         ≡ record in_doubt {
@@ -278,20 +286,33 @@ pub fn handovers_are_made()
 
 /// A promise is made, accepted or dropped.
 pub fn promises_are_made()
-    ensures promised { applied (Promised (host 2) 12 (codes "batch") (record far_carried { starts = 3; lost = 3; hops = 5 }) (codes "date")) busy
-        ≡ peers_are new_peer (record new_peer { closed = 11 }) (record busy {
+    ensures promised { applied (Promised (host 2) 12 10 (codes "batch") (record far_carried { starts = 3; lost = 3; hops = 5 }) (codes "date")) busy
+        ≡ peers_are new_peer (record new_peer { floor = 9 }) (record busy {
+          promises = promise 3 3
+              ∷ record { peer = host 2; number = 12; row = incoming (request 3 1) far_carried.job (codes "batch") 1 3 5 (codes "date") } ∷ [];
+          arrivals = 1;
+        }) }
+    ensures beside { applied (Promised (host 2) 12 9 (codes "batch") (record far_carried { starts = 3; lost = 3; hops = 5 }) (codes "date"))
+        (peers_are new_peer (record new_peer { floor = 4; closed = 7 ∷ 8 ∷ 10 ∷ [] }) busy)
+        ≡ peers_are new_peer (record new_peer { floor = 8; closed = 10 ∷ [] }) (record busy {
+          promises = record (promise 9 9) { peer = host 2 } ∷ promise 3 3
+              ∷ record { peer = host 2; number = 12; row = incoming (request 3 1) far_carried.job (codes "batch") 1 3 5 (codes "date") } ∷ [];
+          arrivals = 1;
+        }) }
+    ensures old { applied (OldPromised (host 2) 12 (codes "batch") (record far_carried { starts = 3; lost = 3; hops = 5 }) (codes "date")) busy
+        ≡ peers_are new_peer (record new_peer { floor = 11 }) (record busy {
           promises = promise 3 3
               ∷ record { peer = host 2; number = 12; row = incoming (request 3 1) far_carried.job (codes "batch") 1 3 5 (codes "date") } ∷ [];
           arrivals = 1;
         }) }
     ensures accepted { applied (Accepted (host 2) 9) busy
-        ≡ peers_are new_peer (record new_peer { closed = 9 }) (record busy { promises = promise 3 3 ∷ []; rows = busy_row ∷ (promise 9 9).row ∷ [] }) }
+        ≡ peers_are new_peer (record new_peer { closed = 9 ∷ [] }) (record busy { promises = promise 3 3 ∷ []; rows = busy_row ∷ (promise 9 9).row ∷ [] }) }
     ensures accepted_again { applied (Accepted (host 2) 9) (record busy { rows = busy_row ∷ record (in_link 9) { id = request 9 1 } ∷ [] })
-        ≡ peers_are new_peer (record new_peer { closed = 9 }) (record busy {
+        ≡ peers_are new_peer (record new_peer { closed = 9 ∷ [] }) (record busy {
           promises = promise 3 3 ∷ [];
           rows = busy_row
               ∷ record (in_link 9) { id = request 9 1 } ∷ [];
         }) }
     ensures dropped { applied (Dropped (host 1) 3) busy
-        ≡ peers_are (record new_peer { closed = 3 }) new_peer (record busy { promises = record (promise 9 9) { peer = host 2 } ∷ [] }) }
+        ≡ peers_are (record new_peer { closed = 3 ∷ [] }) new_peer (record busy { promises = record (promise 9 9) { peer = host 2 } ∷ [] }) }
 {}

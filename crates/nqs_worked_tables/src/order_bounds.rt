@@ -7,12 +7,12 @@ ghost use Rattle.nqs_types.specs.declared.request.Phase.TheVariants.{Offered, Co
 ghost use Rattle.nqs_rules.specs.Tests.{same_host};
 ghost use Rattle.nqs_rules.specs.Format.{new_peer};
 ghost use Rattle.nqs_rules.specs.InOrder.{is_site_right, are_parameters_right, are_lists_short, are_keys_distinct, are_distinct, arrivals_of, same_number};
-ghost use Rattle.nqs_rules.specs.InOrder.{is_queue_right, is_complex_right, is_promise_right, promisers, is_hand_right, offered_ids, has_few_hands};
+ghost use Rattle.nqs_rules.specs.InOrder.{is_queue_right, is_complex_right, is_promise_right, is_hand_right, offered_ids, has_few_hands};
 ghost use Rattle.nqs_rules.specs.InOrder.{is_peer_right, is_stage_right, is_file_right, are_parts_short, is_doom_right, is_hold_right, has_hand};
 ghost use Rattle.nqs_rules.specs.InOrder.{is_promise_free, is_hand_of_given};
 ghost use Rattle.nqs_worked.specs.ScheduleWords.{host, request};
 ghost use Rattle.nqs_worked.specs.Definitions.{fresh, with_queues, with_complexes, with_devices, with_managers, with_operators, crowded, queued, running};
-ghost use Rattle.nqs_worked.specs.Definitions.{promise, a_stage, a_file};
+ghost use Rattle.nqs_worked.specs.Definitions.{promise, upwards, a_stage, a_file};
 ghost use Rattle.nqs_worked_tables.specs.Bounds.{bad_path};
 ghost use Rattle.nqs_worked_tables.specs.Refusals.{held};
 ghost use Rattle.nqs_worked_tables.specs.OrderBounds.{sited, with_two_devices, may_list, queue_bounds, complex, is_row_of_home, home, right_rows, wrong_rows};
@@ -62,8 +62,9 @@ pub fn keys_are_apart()
         ∷ record fresh { rows = queued 1 ∷ queued 2 ∷ []; promises = promise 1 3 ∷ promise 2 3 ∷ [] }
         ∷ record fresh { rows = queued 1 ∷ queued 2 ∷ []; promises = promise 1 2 ∷ [] } ∷ [])
         ≡ true ∷ false ∷ false ∷ false ∷ [] }
-    ensures promisers { map (λ s. are_distinct same_host (promisers s)) (record fresh { promises = promise 1 1 ∷ record (promise 1 2) { peer = host 0 } ∷ [] }
-        ∷ record fresh { promises = promise 1 1 ∷ promise 2 2 ∷ [] } ∷ []) ≡ true ∷ false ∷ [] }
+    ensures promises { map are_keys_distinct (record fresh { promises = promise 1 1 ∷ record (promise 1 2) { peer = host 0 } ∷ [] }
+        ∷ record fresh { promises = promise 1 1 ∷ promise 2 2 ∷ [] } ∷ record fresh { promises = promise 1 1 ∷ promise 1 2 ∷ [] } ∷ [])
+        ≡ true ∷ true ∷ false ∷ [] }
     ensures offers { map (λ p. are_distinct id_eq (offered_ids (record fresh {
       hands = hand 1 1 (request 8 0) Offered ∷ hand 2 1 (request 8 0) p
           ∷ hand 1 2 (request 9 0) Offered ∷ [];
@@ -83,7 +84,7 @@ pub fn rows_have_bounds()
     ensures right { map is_row_of_home right_rows ≡ replicate 14 true }
     ensures wrong { map is_row_of_home wrong_rows ≡ replicate 23 false }
     ensures first_promise { is_promise_right (home (queued 1)) (promise 1 3) ≡ true }
-    ensures promises { map is_promise_of_home promise_bounds ≡ replicate 2 true ++ replicate 7 false }
+    ensures promises { map is_promise_of_home promise_bounds ≡ replicate 2 true ++ replicate 8 false }
 {}
 
 /// Handovers, peers, stages and files.
@@ -91,7 +92,9 @@ pub fn numbers_have_bounds()
     ensures hands { map (is_hand_right handing) hand_bounds ≡ replicate 4 true ++ replicate 10 false }
     ensures few { map (λ n. list_all (has_few_hands (with_hands n)) (with_hands n).hands) (8 ∷ 9 ∷ []) ≡ true ∷ false ∷ [] }
     ensures peers { map is_peer_right (new_peer ∷ record new_peer { next = 0 } ∷ record new_peer { stage_next = 0 }
-        ∷ record new_peer { closed = 9; wait = 9; stage_got = 9 } ∷ []) ≡ true ∷ false ∷ false ∷ true ∷ [] }
+        ∷ record new_peer { floor = 9; wait = 9; stage_got = 9 } ∷ []) ≡ true ∷ false ∷ false ∷ true ∷ [] }
+    ensures closed { map (λ ns. is_peer_right (record new_peer { floor = 4; closed = ns })) ((5 ∷ []) ∷ (5 ∷ 6 ∷ 900 ∷ []) ∷ upwards 5 70 ∷ (4 ∷ [])
+        ∷ (3 ∷ []) ∷ (6 ∷ 5 ∷ []) ∷ (5 ∷ 5 ∷ []) ∷ (5 ∷ 7 ∷ 6 ∷ []) ∷ []) ≡ replicate 3 true ++ replicate 5 false }
     ensures stages { map (is_stage_right staging) (a_stage 1 1 ∷ a_stage 1 2 ∷ a_stage 1 0 ∷ a_stage 1 3 ∷ a_stage 0 1 ∷ a_stage 2 1
         ∷ record (a_stage 1 1) { path = bad_path } ∷ []) ≡ true ∷ true ∷ false ∷ false ∷ false ∷ false ∷ false ∷ [] }
     ensures files { map (is_file_right staging) (a_file 1 ∷ a_file 2 ∷ a_file 0 ∷ a_file 3 ∷ record (a_file 1) { path = bad_path } ∷ [])

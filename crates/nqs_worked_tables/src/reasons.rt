@@ -13,7 +13,7 @@ ghost use Rattle.nqs_worked_tables.specs.Reasons.{ours, told, all_told, busy, wi
 ghost use Rattle.nqs_worked_tables.specs.Reasons.{ranked, of_bob, lined_up, told_among, counted_among, hand, answered, asked, parting, stopped, from_afar};
 ghost use Rattle.nqs_types.specs.declared.reason.Reason.TheVariants.{Runs, OnItsWay, HeldByUser, HeldBySystem, NotBefore, NoQueue, QueueStopped, UserLimit};
 ghost use Rattle.nqs_types.specs.declared.reason.Reason.TheVariants.{RunLimit, ComplexLimit, GlobalLimit, NoDevice, NoDestination, Next};
-ghost use Rattle.nqs_types.specs.declared.reason.DestAnswer.TheVariants.{Refused, NoHost, NoNumberLeft, HandingOver, WaitedFor, MayBeTried};
+ghost use Rattle.nqs_types.specs.declared.reason.DestAnswer.TheVariants.{Refused, NoHost, NoNumberLeft, HandingOver, NotSettled, WaitedFor, MayBeTried};
 
 /// Of a request that runs, is on its way, is held, is too early or has no queue, where all that
 /// comes behind would hold it back too.
@@ -120,11 +120,15 @@ pub fn those_before_are_counted()
 /// What a destination answered, one condition after the other mended, where all that comes behind
 /// fails still.
 pub fn answers_are_told()
-    ensures order { answered (record new_peer { next = 18446744073709551615; wait = 51 }) (hand ∷ []) (far ∷ []) far
-        ∷ answered (record new_peer { next = 18446744073709551615; wait = 51 }) (hand ∷ []) (near ∷ []) far
-        ∷ answered (record new_peer { next = 18446744073709551614; wait = 51 }) (hand ∷ []) [] far ∷ answered (record new_peer { wait = 51 }) [] [] far
-        ∷ answered (record new_peer { wait = 50 }) [] [] far ∷ answered new_peer [] [] far ∷ []
-        ≡ Refused 19 ∷ NoNumberLeft ∷ HandingOver ∷ WaitedFor 51 ∷ MayBeTried ∷ MayBeTried ∷ [] }
+    ensures order { answered (record new_peer { next = 18446744073709551615; wait = 51 }) (replicate 8 hand) (far ∷ []) far
+        ∷ answered (record new_peer { next = 18446744073709551615; wait = 51 }) (replicate 8 hand) (near ∷ []) far
+        ∷ answered (record new_peer { next = 18446744073709551614; wait = 51 }) (replicate 8 hand) [] far
+        ∷ answered (record new_peer { next = 18446744073709551614; wait = 51 }) (replicate 7 hand) [] far
+        ∷ answered (record new_peer { next = 64; wait = 51 }) (replicate 7 hand) [] far
+        ∷ answered (record new_peer { next = 64; wait = 50 }) (replicate 7 hand) [] far ∷ answered new_peer [] [] far ∷ []
+        ≡ Refused 19 ∷ NoNumberLeft ∷ HandingOver ∷ NotSettled 1 ∷ WaitedFor 51 ∷ MayBeTried ∷ MayBeTried ∷ [] }
+    ensures window { map (λ n. answered (record new_peer { next = n }) (record hand { number = 9 } ∷ record hand { number = 5 } ∷ []) [] far)
+        (68 ∷ 69 ∷ 70 ∷ []) ≡ MayBeTried ∷ NotSettled 5 ∷ NotSettled 5 ∷ [] }
     ensures here { map (λ refused. answered (record new_peer { next = 18446744073709551615; wait = 51 }) (hand ∷ record hand { peer = host 0 } ∷ [])
         refused near) ((near ∷ []) ∷ (far ∷ []) ∷ []) ≡ Refused 19 ∷ MayBeTried ∷ [] }
     ensures elsewhere { map (λ refused. answered new_peer (record hand { peer = host 2 } ∷ []) refused (record far { host = host 2 }))
@@ -146,9 +150,11 @@ pub fn reasons_are_spelled()
     ensures moments { map (λ n. reason_text (codes "batch") (NotBefore n)) (1000000000 ∷ 253402214400 ∷ 253402214401 ∷ [])
         ≡ codes "it may not start before 2001-09-09T01:46:40" ∷ codes "it may not start before 9999-12-31T00:00:00"
         ∷ codes "it may not start before 253402214401" ∷ [] }
-    ensures answers { map answer_text (Refused 19 ∷ NoHost ∷ NoNumberLeft ∷ HandingOver ∷ WaitedFor 300 ∷ WaitedFor 253402214401 ∷ MayBeTried ∷ [])
-        ≡ codes "refused with number 19" ∷ codes "no such host" ∷ codes "all numbers are used" ∷ codes "its host is being handed another request"
-        ∷ codes "its host is waited for until 1970-01-01T00:05:00" ∷ codes "its host is waited for until 253402214401" ∷ codes "may be tried" ∷ [] }
+    ensures answers { map answer_text (Refused 19 ∷ NoHost ∷ NoNumberLeft ∷ HandingOver ∷ NotSettled 5 ∷ WaitedFor 300 ∷ WaitedFor 253402214401
+        ∷ MayBeTried ∷ [])
+        ≡ codes "refused with number 19" ∷ codes "no such host" ∷ codes "all numbers are used" ∷ codes "its host is being handed eight requests"
+        ∷ codes "its host has not settled handover 5" ∷ codes "its host is waited for until 1970-01-01T00:05:00"
+        ∷ codes "its host is waited for until 253402214401" ∷ codes "may be tried" ∷ [] }
 {}
 
 /// The dates of moments: the first second and the last day, both sides of a new year, leap days,
@@ -175,11 +181,11 @@ pub fn requests_are_explained()
     ensures early { asked (lined_up []) (ours (codes "batch") 51) ≡ codes "Request 9.alpha: it may not start before 1970-01-01T00:00:51."
         ∷ codes "Requests that wait before it: 0." ∷ [] }
     ensures dests { asked parting (record (to_move 0) { refused = record { dest = near; cause = 19 } ∷ [] })
-        ≡ codes "Request 9.alpha: no destination of queue link may be tried now." ∷ codes "batch@beta: its host is being handed another request."
+        ≡ codes "Request 9.alpha: no destination of queue link may be tried now." ∷ codes "batch@beta: its host is being handed eight requests."
         ∷ codes "batch@alpha: refused with number 19." ∷ codes "Requests that wait before it: 0." ∷ [] }
     ensures two { asked parting (record (to_move 0) { hold = System; refused = record { dest = near; cause = 19 } ∷ [] })
         ≡ codes "Request 9.alpha: the system holds it." ∷ codes "Request 9.alpha: no destination of queue link may be tried now."
-        ∷ codes "batch@beta: its host is being handed another request." ∷ codes "batch@alpha: refused with number 19."
+        ∷ codes "batch@beta: its host is being handed eight requests." ∷ codes "batch@alpha: refused with number 19."
         ∷ codes "Requests that wait before it: 0." ∷ [] }
     ensures open { asked parting (to_move 0) ≡ codes "Request 9.alpha: it is next in queue link." ∷ codes "Requests that wait before it: 0." ∷ [] }
     ensures next { asked (lined_up (ranked 40 1 ∷ ranked 31 8 ∷ ranked 31 10 ∷ [])) (ranked 31 9)

@@ -4,7 +4,8 @@ ghost use Rattle.std.specs.Prelude.{◌≡◌, codes, [], ◌∷◌, ◌++◌, m
 ghost use Rattle.nqs_types.specs.declared.edit.Edit.TheVariants.{Conf, Limits, Access, Devices, Rows};
 ghost use Rattle.nqs_types.specs.declared.edit.ConfEdit.TheVariants.{CreateBatchQueue, CreateDeviceQueue, CreatePipeQueue, DeleteQueue, EnableQueue};
 ghost use Rattle.nqs_types.specs.declared.edit.ConfEdit.TheVariants.{DisableQueue, StartQueue, StopQueue, PurgeQueue, SetPriority, SetRunLimit, AddDestination};
-ghost use Rattle.nqs_types.specs.declared.edit.ConfEdit.TheVariants.{RemoveDestination, SetDefaultQueue, SetNoDefaultQueue, SetPatience, SetRetryWait};
+ghost use Rattle.nqs_types.specs.declared.edit.ConfEdit.TheVariants.{RemoveDestination, FirstDestination, SetDefaultQueue, SetNoDefaultQueue, SetPatience};
+ghost use Rattle.nqs_types.specs.declared.edit.ConfEdit.TheVariants.{SetRetryWait};
 ghost use Rattle.nqs_types.specs.declared.edit.LimitsEdit.TheVariants.{SetUserLimit, SetCpuLimit, SetMemoryLimit, CreateComplex, DeleteComplex, AddQueue};
 ghost use Rattle.nqs_types.specs.declared.edit.LimitsEdit.TheVariants.{RemoveQueue, SetComplexLimit, SetGlobalLimit};
 ghost use Rattle.nqs_types.specs.declared.edit.AccessEdit.TheVariants.{SetUnrestrictedAccess, SetNoAccess, AddUser, RemoveUser, AddManager, RemoveManager};
@@ -72,7 +73,7 @@ pub fn queues_are_there()
 {}
 
 /// A destination is added: the queue, the host, the kind, whether it is there, how many there are;
-/// and removed: the queue, the kind, whether it is there.
+/// and removed, or put first: the queue, the kind, whether it is there.
 pub fn destinations_are_refused()
     ensures add { refused_each (Conf (AddDestination (to_zed (codes "x")) (codes "nope")) ∷ Conf (AddDestination (to_beta (codes "x")) (codes "nope"))
         ∷ Conf (AddDestination (to_zed (codes "x")) (codes "lp")) ∷ Conf (AddDestination (to_beta (codes "x")) (codes "lp"))
@@ -89,6 +90,12 @@ pub fn destinations_are_refused()
         ∷ Conf (RemoveDestination (to_alpha (codes "batch")) (codes "link")) ∷ Conf (RemoveDestination (to_zed (codes "batch")) (codes "link"))
         ∷ Conf (RemoveDestination (to_beta (codes "batch")) (codes "link")) ∷ []) full_house
         ≡ Err (NoQueue (codes "nope")) ∷ Err WrongKind ∷ Err NoDest ∷ Err NoDest ∷ Err NoDest ∷ Ok tt ∷ [] }
+    ensures first { refused_each (Conf (FirstDestination (to_beta (codes "batch")) (codes "nope"))
+        ∷ Conf (FirstDestination (to_beta (codes "batch")) (codes "lp")) ∷ Conf (FirstDestination (to_beta (codes "x")) (codes "link"))
+        ∷ Conf (FirstDestination (to_alpha (codes "batch")) (codes "link")) ∷ Conf (FirstDestination (to_zed (codes "batch")) (codes "link"))
+        ∷ Conf (FirstDestination (to_beta (codes "batch")) (codes "link")) ∷ []) full_house
+        ≡ Err (NoQueue (codes "nope")) ∷ Err WrongKind ∷ Err NoDest ∷ Err NoDest ∷ Err NoDest ∷ Ok tt ∷ [] }
+    ensures first_kind { refused_each (Conf (FirstDestination (to_beta (codes "batch")) (codes "batch")) ∷ []) (with_batch_dests 1) ≡ Err WrongKind ∷ [] }
     ensures remove_kind { refused_each (Conf (RemoveDestination (to_beta (codes "batch")) (codes "batch")) ∷ []) (with_batch_dests 1) ≡ Err WrongKind ∷ [] }
 {}
 

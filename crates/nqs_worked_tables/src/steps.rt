@@ -30,14 +30,14 @@ ghost use Rattle.nqs_worked_tables.specs.Steps.{free_guests, joining, ends};
 
 /// An OFFER: closed numbers first, then promises, then refusals.
 pub fn offers_come()
-    ensures third { arrive 2 (body.Offer 8 (codes "batch") far_carried [] ∷ body.Offer 9 (codes "nope") far_carried []
-        ∷ body.Offer 10 (codes "nope") far_carried [] ∷ body.Offer 10 (codes "batch") (carried 1) [] ∷ body.Offer 10 (codes "batch") far_carried (codes "date")
-        ∷ []) party
+    ensures third { arrive 2 (body.Offer 8 1 (codes "batch") far_carried [] ∷ body.Offer 9 1 (codes "nope") far_carried []
+        ∷ body.Offer 10 1 (codes "nope") far_carried [] ∷ body.Offer 10 1 (codes "batch") (carried 1) []
+        ∷ body.Offer 10 4 (codes "batch") far_carried (codes "date") ∷ []) party
         ≡ only_says 2 (body.Done 8) ∷ only_says 2 (body.Ready 9) ∷ only_says 2 (body.Refused 10 3) ∷ only_says 2 (body.Refused 10 33)
-        ∷ makes_and_says (Promised (host 2) 10 (codes "batch") far_carried (codes "date")) 2 (body.Ready 10) ∷ [] }
-    ensures second { arrive 1 (body.Offer 2 (codes "batch") far_carried [] ∷ body.Offer 3 (codes "batch") (carried 1) []
-        ∷ body.Offer 9 (codes "batch") far_carried [] ∷ []) party
-        ≡ only_says 1 (body.Done 2) ∷ only_says 1 (body.Ready 3) ∷ makes_and_says (Promised (host 1) 9 (codes "batch") far_carried []) 1 (body.Ready 9) ∷ [] }
+        ∷ makes_and_says (Promised (host 2) 10 4 (codes "batch") far_carried (codes "date")) 2 (body.Ready 10) ∷ [] }
+    ensures second { arrive 1 (body.Offer 2 1 (codes "batch") far_carried [] ∷ body.Offer 3 1 (codes "batch") (carried 1) []
+        ∷ body.Offer 9 9 (codes "batch") far_carried [] ∷ []) party
+        ≡ only_says 1 (body.Done 2) ∷ only_says 1 (body.Ready 3) ∷ makes_and_says (Promised (host 1) 9 9 (codes "batch") far_carried []) 1 (body.Ready 9) ∷ [] }
 {}
 
 /// READY and INQUIRE: an offered handover is committed, a committed one said again, and what there

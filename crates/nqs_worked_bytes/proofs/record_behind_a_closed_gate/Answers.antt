@@ -1,4 +1,4 @@
-use Rattle.std.proofs.Common.{[], ◌∷◌, false, inl, inr, refl, arith}
+use Rattle.std.proofs.Common.{[], ◌∷◌, inl, inr, refl, arith}
 use Rattle.nqs_worked_bytes.proofs.record_behind_a_closed_gate.Goals as goal
 
 pub returns-clause-stands : goal.returns-clause-stands
@@ -13,7 +13,7 @@ returns-clause-stands c = record {
 
 pub returns-clause-fault : goal.returns-clause-fault
 returns-clause-fault c = inr (inr (
-  false,
+  0,
   [],
   [],
   (

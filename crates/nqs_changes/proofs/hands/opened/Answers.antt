@@ -12,7 +12,7 @@ pub push-requires-clause-absent : goal.push-requires-clause-absent
 push-requires-clause-absent c =
     let hand = c.args.hand in
     ap (λ hs. list_any (is_hand (peer_number hand.peer hand.number)) hs.items) c.change_peer.ensures.hands
-    ∙ hand_is_new hand.peer hand.number c.args.state.now.hands.items c.requires.alone
+    ∙ hand_is_new (content c.args.state.now) c.requires.order hand.peer hand.number c.requires.next
 
 pub returns : goal.returns
 returns c =

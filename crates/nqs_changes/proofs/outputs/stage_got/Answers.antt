@@ -9,4 +9,4 @@ add_file-requires-clause-order c =
     let s = content c.args.state.now in
     subst IsInOrder (sym (c.change_peer.ensures.content (λ p. record p { stage_got = c.args.number }) (λ p q found ran. search rules)))
     (peer_counted s c.args.peer (λ p. record p { stage_got = c.args.number }) c.requires.order (λ p e. record { next = omega arith; stage_next = omega arith })
-    (λ p. refl))
+    (λ p. (refl, refl)))

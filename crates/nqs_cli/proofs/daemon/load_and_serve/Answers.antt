@@ -13,7 +13,8 @@ pub returns-in-Err : goal.returns-in-Err
 returns-in-Err g c =
     let was : Outside = daemon_told g.D.Disk g.W.Wire g.L.Launcher g.P.Printer g.O.Outlet g.C.Clock c.args.disks c.args.around.now in
     let now : Outside = daemon_told g.D.Disk g.W.Wire g.L.Launcher g.P.Printer g.O.Outlet g.C.Clock c.in-Err.disks c.args.around.now in
-    not_loaded g.D.Disk.tells c.args.station.now.me c.args.station.now.names.now c.args.turns was now c.in-Err.fault c.status_of_fault.result c.status_of_fault.ensures (refl, refl)
+    not_loaded g.D.Disk.tells c.args.station.now.me c.args.station.now.names.now c.args.turns was now c.in-Err.fault c.status_of_fault.result
+    c.status_of_fault.ensures (refl, refl)
     c.requires.quiet c.in-Err.ensures.reads.same (λ which is. (c.in-Err.ensures.failed which is).rose) c.in-Err.ensures.fault
 
 pub returns-then-not-is_here : goal.returns-then-not-is_here

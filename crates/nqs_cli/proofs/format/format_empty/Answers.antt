@@ -9,7 +9,8 @@ use Rattle.nqs_cli.proofs.format.format_empty.Goals as goal
 pub returns-in-Err : goal.returns-in-Err
 returns-in-Err g c =
     let told = disks_told g.D.Disk in
-    subst (Formats g.D.Disk.tells c.args.station.now.me c.args.station.now.names.now (told c.args.disks.now) (told c.have_bytes.new.disks)) (sym c.in-Err.ensures.only)
+    subst (Formats g.D.Disk.tells c.args.station.now.me c.args.station.now.names.now (told c.args.disks.now) (told c.have_bytes.new.disks))
+    (sym c.in-Err.ensures.only)
     (c.in-Err.ensures.failed, λ yes. let same = c.in-Err.ensures.same yes in (same Root, same Second, same Spool))
 
 pub returns-in-Ok : goal.returns-in-Ok

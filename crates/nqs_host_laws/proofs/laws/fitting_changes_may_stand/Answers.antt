@@ -1,28 +1,38 @@
 use Rattle.std.proofs.Common.{nat_le, not, length, [], ◌∷◌}
 use Rattle.std.proofs.lemmas.Bool.{and_parts}
-use Rattle.std.specs.List.{list_any, list_all}
+use Rattle.std.specs.List.{list_all}
 use Rattle.nqs_state.specs.State.{content}
 use Rattle.nqs_state.specs.Least.{runs_now}
 use Rattle.nqs_rules.specs.Tests.{is_ready, passes}
-use Rattle.nqs_rules.specs.Find.{has_queue, has_promise, find_peer}
+use Rattle.nqs_rules.specs.Find.{has_queue, find_peer}
 use Rattle.nqs_rules.specs.Rows.{arrivals_used}
-use Rattle.nqs_rules.specs.Routing.{is_hand_to}
-use Rattle.nqs_rules.specs.Sane.{has_path}
+use Rattle.nqs_rules.specs.Routing.{has_room_for_hand, is_within_window}
+use Rattle.nqs_rules.specs.Sane.{has_path, is_sane_low, is_sane_carried}
 use Rattle.nqs_rules.specs.Fits.{is_idle, may_hop, row_passes, device_fits, is_offered_hand, is_committed_hand, is_next, is_open_number, is_new_stage}
-use Rattle.nqs_rules.specs.Fits.{is_site_host, is_unknown, offer_full}
 use Rattle.nqs_rules.proofs.Chains.{each}
 use Rattle.nqs_rules.proofs.PathStands.{path_stands}
 use Rattle.nqs_rules.proofs.StateFacts.{host_below}
-use Rattle.nqs_host_laws.proofs.Stands.{parts_stand, counts_few, peer_host, hand_host, promise_host, stage_host, hands_are, row_id}
+use Rattle.nqs_host_laws.proofs.Stands.{promise_has, parts_stand, counts_few, peer_host, hand_host, promise_host, stage_host, hands_are, row_id}
 use Rattle.nqs_host_laws.proofs.laws.fitting_changes_may_stand.Goals as goal
 
 pub carried_stands-requires-clause-host : goal.carried_stands-requires-clause-host
 carried_stands-requires-clause-host c =
+    let a = c.in-OldPromised in
+    let s = content c.args.state.now in
+    let k = promise_has s a.peer a.number a.number a.queue a.carried (rw a.is at c.requires.fits) in
+    host_below s a.carried.id.host c.requires.order.site k.host
+
+pub carried_stands-requires-in-Promised-clause-sane : goal.carried_stands-requires-in-Promised-clause-sane
+carried_stands-requires-in-Promised-clause-sane c =
+    let a = c.in-Promised in
+    (and_parts (is_sane_low a.low a.number) (is_sane_carried a.carried) (rw a.is at c.requires.sane)).1
+
+pub carried_stands-requires-in-Promised-clause-host : goal.carried_stands-requires-in-Promised-clause-host
+carried_stands-requires-in-Promised-clause-host c =
     let a = c.in-Promised in
     let s = content c.args.state.now in
-    let k = each (has_queue a.queue s) (passes (is_open_number a.number) (find_peer a.peer s) ∷ not (has_promise a.peer a.number s)
-    ∷ is_site_host a.carried.id.host s ∷ is_unknown a.carried.id s ∷ not (offer_full a.peer s) ∷ not (arrivals_used s) ∷ []) (rw a.is at c.requires.fits) in
-    host_below s a.carried.id.host c.requires.order.site k.1.1.1.0
+    let k = promise_has s a.peer a.number a.low a.queue a.carried (rw a.is at c.requires.fits) in
+    host_below s a.carried.id.host c.requires.order.site k.host
 
 pub returns-in-Submitted : goal.returns-in-Submitted
 returns-in-Submitted c =
@@ -68,8 +78,8 @@ pub returns-in-HandOpened : goal.returns-in-HandOpened
 returns-in-HandOpened c =
     let a = c.in-HandOpened in
     let s = content c.args.state.now in
-    let k = each (row_passes may_hop a.id s) (passes (is_next a.number) (find_peer a.peer s) ∷ not (list_any (is_hand_to a.peer) s.hands) ∷ [])
-    (rw a.is at c.requires.fits) in
+    let k = each (row_passes may_hop a.id s) (passes (is_next a.number) (find_peer a.peer s) ∷ has_room_for_hand a.peer s
+    ∷ passes (is_within_window a.peer s) (find_peer a.peer s) ∷ []) (rw a.is at c.requires.fits) in
     rw a.is (
       peer_host s c.requires.order (is_next a.number) a.peer k.1.0,
       c.number_stands.ensures,
@@ -112,18 +122,32 @@ returns-in-HandDone c =
       c.number_stands-in-HandDone.ensures,
     )
 
+pub returns-in-OldPromised : goal.returns-in-OldPromised
+returns-in-OldPromised c =
+    let a = c.in-OldPromised in
+    let s = content c.args.state.now in
+    let k = promise_has s a.peer a.number a.number a.queue a.carried (rw a.is at c.requires.fits) in
+    let x = rw a.is at c.requires.extents in
+    rw a.is (
+      peer_host s c.requires.order (is_open_number a.number) a.peer k.opens,
+      c.number_stands-in-OldPromised.ensures,
+      c.name_stands-in-OldPromised.ensures,
+      c.carried_stands.ensures,
+      x.0,
+    )
+
 pub returns-in-Promised : goal.returns-in-Promised
 returns-in-Promised c =
     let a = c.in-Promised in
     let s = content c.args.state.now in
-    let k = each (has_queue a.queue s) (passes (is_open_number a.number) (find_peer a.peer s) ∷ not (has_promise a.peer a.number s)
-    ∷ is_site_host a.carried.id.host s ∷ is_unknown a.carried.id s ∷ not (offer_full a.peer s) ∷ not (arrivals_used s) ∷ []) (rw a.is at c.requires.fits) in
+    let k = promise_has s a.peer a.number a.low a.queue a.carried (rw a.is at c.requires.fits) in
     let x = rw a.is at c.requires.extents in
+    let low = (and_parts (is_sane_low a.low a.number) (is_sane_carried a.carried) (rw a.is at c.requires.sane)).0 in
     rw a.is (
-      peer_host s c.requires.order (is_open_number a.number) a.peer k.1.0,
-      c.number_stands-in-Promised.ensures,
+      peer_host s c.requires.order (is_open_number a.number) a.peer k.opens,
+      (c.number_stands-in-Promised.ensures, low),
       c.name_stands-in-Promised.ensures,
-      c.carried_stands.ensures,
+      c.carried_stands-in-Promised.ensures,
       x.0,
     )
 

@@ -16,7 +16,6 @@ delete_there-seen-requires-clause-order c = record {
       refl;
   rows = refl;
   promises = refl;
-  promisers = refl;
   hands = refl;
   few = refl;
   offers = refl;

@@ -22,7 +22,6 @@ order = record {
   rows = refl;
   promises =
       refl;
-  promisers = refl;
   hands = refl;
   few = refl;
   offers = refl;

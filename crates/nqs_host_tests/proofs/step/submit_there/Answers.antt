@@ -20,7 +20,6 @@ order = record {
   rows = refl;
   promises =
       refl;
-  promisers = refl;
   hands = refl;
   few = refl;
   offers = refl;

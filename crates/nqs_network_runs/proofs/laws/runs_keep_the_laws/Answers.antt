@@ -51,7 +51,8 @@ returns c = λ words source site events asks n.
       handovers = record {
         pairs = λ from to s t here there. record {
           step = c.handovers_are_in_step.ensures site acts right sane from to s t here there;
-          next = c.promises_have_the_next_number.ensures site acts right sane from to s t here there;
+          few = c.handovers_are_few.ensures site acts right sane from to s t here there;
+          near = c.taken_numbers_are_near.ensures site acts right sane from to s t here there;
           load = c.promises_keep_what_is_handed_over.ensures.offered site acts right sane from to s t here there;
           errand = c.promises_keep_what_is_handed_over.ensures.committed site acts right sane from to s t here there;
         };
@@ -60,10 +61,10 @@ returns c = λ words source site events asks n.
           number = c.packets_have_given_numbers.ensures site acts right sane m sent s t here there;
         };
         finds = λ m sent s t here there. record {
-          offered = λ number queue load script is. c.open_offers_find_no_row.ensures site acts right sane m number queue load script sent is s t here there;
+          offered = λ number low queue load script is.
+              c.open_offers_find_no_row.ensures site acts right sane m number low queue load script sent is s t here there;
           committed = λ number p is. c.accepted_requests_find_no_row.ensures site acts right sane m number p sent is s t here there;
         };
-        last = c.handovers_have_the_last_number.ensures site acts right sane;
       };
       settled = record {
         promises = c.promises_are_settled.ensures site acts right sane;

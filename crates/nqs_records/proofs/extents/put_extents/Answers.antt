@@ -1,9 +1,9 @@
 use Rattle.std.proofs.Common.{◌≡◌, ℕ, List, [], ◌++◌, ◌≤◌, flat_map, ◌∙◌, length, length-append, refl, sym, ap, arith}
-use Rattle.nqs_types.specs.declared.change.Change.TheVariants.{Submitted, Promised, StageGot}
+use Rattle.nqs_types.specs.declared.change.Change.TheVariants.{Submitted, OldPromised, Promised, StageGot}
 use Rattle.nqs_records.specs.Spelling.{extent_field, part_field}
 use Rattle.nqs_records.specs.Changes.{spelling}
 use Rattle.nqs_records.specs.Extents.{first_or, parts_with, with_extents}
-use Rattle.nqs_records.proofs.PutBack.{length-extent, submitted_front, submitted_ends, promised_front, promised_ends, got_front, got_ends, ended_front}
+use Rattle.nqs_records.proofs.PutBack.{length-extent, submitted_front, submitted_ends, old_promised_front, old_promised_ends, promised_front, promised_ends, got_front, got_ends, ended_front}
 use Rattle.nqs_records.proofs.PutBack.{ended_ends, length-parts_with}
 use Rattle.nqs_records.proofs.extents.put_extents.Goals as goal
 
@@ -24,11 +24,17 @@ pub put_extent-requires : goal.put_extent-requires
 put_extent-requires c = let p = c.in-Submitted in twelve _ (spelling (Submitted p.queue p.job p.script)) (submitted_front p.queue p.job) p.script
     (c.requires ∙ ap (λ x. length (spelling x)) p.is) (submitted_ends p.queue p.job p.script)
 
+pub put_extent-requires-in-OldPromised : goal.put_extent-requires-in-OldPromised
+put_extent-requires-in-OldPromised c =
+    let p = c.in-OldPromised in twelve _ (spelling (OldPromised p.peer p.number p.queue p.carried p.script))
+    (old_promised_front p.peer p.number p.queue p.carried) p.script (c.requires ∙ ap (λ x. length (spelling x)) p.is)
+    (old_promised_ends p.peer p.number p.queue p.carried p.script)
+
 pub put_extent-requires-in-Promised : goal.put_extent-requires-in-Promised
 put_extent-requires-in-Promised c =
-    let p = c.in-Promised in twelve _ (spelling (Promised p.peer p.number p.queue p.carried p.script))
-    (promised_front p.peer p.number p.queue p.carried) p.script (c.requires ∙ ap (λ x. length (spelling x)) p.is)
-    (promised_ends p.peer p.number p.queue p.carried p.script)
+    let p = c.in-Promised in twelve _ (spelling (Promised p.peer p.number p.low p.queue p.carried p.script))
+    (promised_front p.peer p.number p.low p.queue p.carried) p.script (c.requires ∙ ap (λ x. length (spelling x)) p.is)
+    (promised_ends p.peer p.number p.low p.queue p.carried p.script)
 
 pub put_extent-requires-in-StageGot : goal.put_extent-requires-in-StageGot
 put_extent-requires-in-StageGot c =
@@ -55,12 +61,19 @@ returns-in-Submitted c = λ others is.
     (is ∙ ap (λ x. spelling (with_extents x others)) p.is ∙ submitted_ends p.queue p.job (first_or p.script others)) refl
     ∙ sym (submitted_ends p.queue p.job p.script) ∙ ap spelling (sym p.is)
 
+pub returns-in-OldPromised : goal.returns-in-OldPromised
+returns-in-OldPromised c = λ others is.
+    let p = c.in-OldPromised in
+    c.put_extent-in-OldPromised.ensures.put (old_promised_front p.peer p.number p.queue p.carried) [] (first_or p.script others)
+    (is ∙ ap (λ x. spelling (with_extents x others)) p.is ∙ old_promised_ends p.peer p.number p.queue p.carried (first_or p.script others)) refl
+    ∙ sym (old_promised_ends p.peer p.number p.queue p.carried p.script) ∙ ap spelling (sym p.is)
+
 pub returns-in-Promised : goal.returns-in-Promised
 returns-in-Promised c = λ others is.
     let p = c.in-Promised in
-    c.put_extent-in-Promised.ensures.put (promised_front p.peer p.number p.queue p.carried) [] (first_or p.script others)
-    (is ∙ ap (λ x. spelling (with_extents x others)) p.is ∙ promised_ends p.peer p.number p.queue p.carried (first_or p.script others)) refl
-    ∙ sym (promised_ends p.peer p.number p.queue p.carried p.script) ∙ ap spelling (sym p.is)
+    c.put_extent-in-Promised.ensures.put (promised_front p.peer p.number p.low p.queue p.carried) [] (first_or p.script others)
+    (is ∙ ap (λ x. spelling (with_extents x others)) p.is ∙ promised_ends p.peer p.number p.low p.queue p.carried (first_or p.script others)) refl
+    ∙ sym (promised_ends p.peer p.number p.low p.queue p.carried p.script) ∙ ap spelling (sym p.is)
 
 pub returns-in-StageGot : goal.returns-in-StageGot
 returns-in-StageGot c = λ others is.

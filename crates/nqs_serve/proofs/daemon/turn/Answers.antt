@@ -110,7 +110,8 @@ returns-in-Err-take_back-clause-err g c = λ s here knows same.
     let ys = run_calls here (turn (after_event ok.0 e s) (map event_back back)) cut.0 in
     let xs = run_calls here (idle s) acts in
     let all : xs ≡ calls ok.0 e s ++ ys = turn_calls here came.0 ok.0 ok.1 cut.0 s e c.clear.new.self.items back some c.clear.ensures.items ok.2 in
-    let lift : (done : List (Stepped (List ℕ))) (failed : Kept) → KeptBehind mid new (after_event ok.0 e s) ys done failed → KeptBehind old new s xs done failed =
+    let lift : (done : List (Stepped (List ℕ))) (failed : Kept) → KeptBehind mid new (after_event ok.0 e s) ys done failed
+    → KeptBehind old new s xs done failed =
     λ done failed kept.
     behind_both old new s xs (calls ok.0 e s) ys done failed all (kept_then old mid new s (calls ok.0 e s) (ys ++ done) failed ok.6 kept) in (
       acts,

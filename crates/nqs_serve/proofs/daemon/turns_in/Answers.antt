@@ -62,7 +62,8 @@ returns-in-Err-clause-run g c = λ s here knows same.
     let new = c.turn.new.node in
     let front = run_calls here (idle s) before.0 in
     let rest = run_calls here (idle before.1) err.0 in
-    let lift : (done : List (Stepped (List ℕ))) (failed : Kept) → KeptBehind mid new before.1 rest done failed → KeptBehind old new s (front ++ rest) done failed =
+    let lift : (done : List (Stepped (List ℕ))) (failed : Kept) → KeptBehind mid new before.1 rest done failed
+    → KeptBehind old new s (front ++ rest) done failed =
     λ done failed kept.
     subst (λ (l : List (Stepped (List ℕ))). KeepsTill old new s l failed) (sym (append_assoc front rest done))
     (run_then here old mid new before.0 s [] (idle before.1) (rest ++ done) failed before.5.run before.5.leads before.6 kept) in

@@ -62,7 +62,8 @@ loop-cut-preserved g c =
             subst (λ v. Knows c.start.new.node v) (sym (after_more before.0 x s)) after.0,
             spelled.same ∙ after.1 ∙ ap (λ (l : List Output). l ++ said x) before.3 ∙ said_more c.args.outbox.now.out.items before.0 x,
             kept_both c.args.node.now c.loop-cut.node c.start.new.node s before.0 (x ∷ []) before.4
-                (kept_one c.loop-cut.node c.start.new.node u x (did.takes.whole u before.2) (did.takes.moments u before.2) (did.takes.active u before.2) after.0),
+                (kept_one c.loop-cut.node c.start.new.node u x (did.takes.whole u before.2) (did.takes.moments u before.2)
+                (did.takes.active u before.2) after.0),
           );
       many = spelled.many;
       room = spelled.room;

@@ -65,8 +65,12 @@ returns-in-Err-clause-cut g c = λ s here knows same.
       t,
       begun cut.0 cut.1,
       arrivals_append before.0 [] ∙ ap (λ l. l ++ []) before.2,
-      λ failed. let known = cut.2 (same_error _ _ failed) in
-          (known.1.0, known.1.1, cut_as K L t (begun cut.0 cut.1) known.1.0 lift (inr (e, map event_back rest, cut.0, refl, ap (begun cut.0) known.0, known.1.2))),
+      λ failed. let known = cut.2 (same_error _ _ failed) in (
+        known.1.0,
+        known.1.1,
+        cut_as K L t (begun cut.0 cut.1) known.1.0 lift
+            (inr (e, map event_back rest, cut.0, refl, ap (begun cut.0) known.0, known.1.2)),
+      ),
       λ which failed. broken_as (IsAt new) K L t (begun cut.0 cut.1) (history_of new) lift
           (e, map event_back rest, cut.0, cut.1, refl, refl, cut.3 which (same_error _ _ failed)),
       cut_back here before.0 _ before.1 e x c.loop-me.outbox.back.items rest cut.0 cut.1 _ _ _ split c.event_back-event.ensures before.4 cut.4,

@@ -1,4 +1,5 @@
 use Rattle.std.proofs.Common.{arith}
+use Rattle.nqs_snapshot.proofs.PartLaws.{peer_law}
 use Rattle.nqs_snapshot.proofs.Snapshots.{if_read, if_refused}
 use Rattle.std.proofs.lemmas.Result.{IfOk-weaker}
 use Rattle.nqs_state.specs.State.{content}
@@ -6,19 +7,19 @@ use Rattle.nqs_snapshot.proofs.Standing.{stands_short}
 use Rattle.nqs_snapshot.proofs.read.read_state.Goals as goal
 
 pub returns-clause-ok : goal.returns-clause-ok
-returns-clause-ok c = if_read c.args.bytes.now c.read_snapshot.result (λ i. omega (arith, c.type_inv.bytes i)) c.read_snapshot.ensures
+returns-clause-ok c = if_read peer_law c.args.bytes.now c.read_snapshot.result (λ i. omega (arith, c.type_inv.bytes i)) c.read_snapshot.ensures
 
 pub returns-clause-order : goal.returns-clause-order
 returns-clause-order c = IfOk-weaker c.read_snapshot.result _ _ (λ state is. is.1.order)
-    (if_read c.args.bytes.now c.read_snapshot.result (λ i. omega (arith, c.type_inv.bytes i)) c.read_snapshot.ensures)
+    (if_read peer_law c.args.bytes.now c.read_snapshot.result (λ i. omega (arith, c.type_inv.bytes i)) c.read_snapshot.ensures)
 
 pub returns-clause-consistent : goal.returns-clause-consistent
 returns-clause-consistent c = IfOk-weaker c.read_snapshot.result _ _ (λ state is. is.1.consistent)
-    (if_read c.args.bytes.now c.read_snapshot.result (λ i. omega (arith, c.type_inv.bytes i)) c.read_snapshot.ensures)
+    (if_read peer_law c.args.bytes.now c.read_snapshot.result (λ i. omega (arith, c.type_inv.bytes i)) c.read_snapshot.ensures)
 
 pub returns-clause-short : goal.returns-clause-short
 returns-clause-short c = IfOk-weaker c.read_snapshot.result _ _ (λ state is. stands_short (content state) is.1.stands)
-    (if_read c.args.bytes.now c.read_snapshot.result (λ i. omega (arith, c.type_inv.bytes i)) c.read_snapshot.ensures)
+    (if_read peer_law c.args.bytes.now c.read_snapshot.result (λ i. omega (arith, c.type_inv.bytes i)) c.read_snapshot.ensures)
 
 pub returns-clause-none : goal.returns-clause-none
-returns-clause-none c = if_refused c.args.bytes.now c.read_snapshot.result (λ i. omega (arith, c.type_inv.bytes i)) c.read_snapshot.ensures
+returns-clause-none c = if_refused peer_law c.args.bytes.now c.read_snapshot.result (λ i. omega (arith, c.type_inv.bytes i)) c.read_snapshot.ensures

@@ -22,6 +22,6 @@ returns-in_default g c = record {
   tells = λ live fewer was takes.
       let n = c.in_default in
       let none = nothing_gone (content c.args.state.now) c.args.change.now n.not-Deleted n.not-Ended n.not-Unlaunched n.not-Boot n.not-Edited
-      n.not-HandCommitted n.not-Promised n.not-Accepted n.not-Dropped n.not-StageGot n.not-StageGone n.not-FileGone in
+      n.not-HandCommitted n.not-OldPromised n.not-Promised n.not-Accepted n.not-Dropped n.not-StageGot n.not-StageGone n.not-FileGone in
       subst (Rattle.nqs_spool.specs.Spooled.Tells c.args.spool.now) (subst (λ l. Takes live l fewer) none takes) was;
 }

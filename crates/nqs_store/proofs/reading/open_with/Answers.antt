@@ -40,14 +40,14 @@ returns g c = record {
       let e = c.in-Ok-host_in.ensures in
       let size = e.extents.3 told ∙ ap (λ h. length (bytes_now h)) (sym (c.host_in.ensures.reads.same told)) in
       record {
-        has = c.in-Ok.has;
+        version = c.in-Ok.version;
         snapshot = t.0;
         payloads = t.1;
         is = t.2;
         journal = t.3;
         many = omega (arith, c.in-Ok.ensures.counted, ap length t.5, length-append c.new-found.result.items t.1);
-        records = subst (λ s. told_by c.in-Ok.has s t.1 ≡ Some host) front
-            (subst (λ ps. told_by c.in-Ok.has c.deref.result.now ps ≡ Some host) all c.in-Ok-host_in.ensures.host.0);
+        records = subst (λ s. told_by c.in-Ok.version s t.1 ≡ Some host) front
+            (subst (λ ps. told_by c.in-Ok.version c.deref.result.now ps ≡ Some host) all c.in-Ok-host_in.ensures.host.0);
         spool = c.in-Ok-open_rest.ensures.tells (live host) e.host.2
             (λ _. subst (λ n. AllByRecursion (λ x. past x ≤ n) (live host)) size e.extents.2.within);
       };

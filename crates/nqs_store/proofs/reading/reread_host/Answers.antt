@@ -15,12 +15,12 @@ returns g c = record {
         let all = c.deref-in-Ok.ensures.value ∙ f.4 ∙ ap (λ l. l ++ f.1) c.new-found.ensures.items in
         let e = c.in_ok-state-in-Ok.ensures.read.extents in
         record {
-          has = c.in-Ok.has;
+          version = c.in-Ok.version;
           snapshot = f.0;
           payloads = f.1;
           stands = f.2;
-          tells = subst (λ s. told_by c.in-Ok.has s f.1 ≡ Some host) front
-              (subst (λ ps. told_by c.in-Ok.has c.deref.result.now ps ≡ Some host) all c.in_ok-state-in-Ok.ensures.read.host.0);
+          tells = subst (λ s. told_by c.in-Ok.version s f.1 ≡ Some host) front
+              (subst (λ ps. told_by c.in-Ok.version c.deref.result.now ps ≡ Some host) all c.in_ok-state-in-Ok.ensures.read.host.0);
           sound = subst (λ n. AreSound n (live host)) (e.3 told) e.2;
         };
     sound = search rules;

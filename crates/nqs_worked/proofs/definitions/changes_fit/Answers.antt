@@ -33,3 +33,7 @@ returns-clause-committed c = refl
 pub returns-clause-promised : goal.returns-clause-promised
 unfolding digits
 returns-clause-promised c = refl
+
+pub returns-clause-old : goal.returns-clause-old
+unfolding digits
+returns-clause-old c = refl

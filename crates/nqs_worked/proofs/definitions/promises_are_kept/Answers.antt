@@ -2,9 +2,13 @@ use Rattle.std.proofs.Common.{refl}
 use Rattle.std.specs.Fmt.{digits}
 use Rattle.nqs_worked.proofs.definitions.promises_are_kept.Goals as goal
 
-pub returns-clause-replaced : goal.returns-clause-replaced
+pub returns-clause-left : goal.returns-clause-left
 unfolding digits
-returns-clause-replaced c = refl
+returns-clause-left c = refl
+
+pub returns-clause-old : goal.returns-clause-old
+unfolding digits
+returns-clause-old c = refl
 
 pub returns-clause-arrival : goal.returns-clause-arrival
 unfolding digits

@@ -11,6 +11,10 @@ pub returns-clause-two : goal.returns-clause-two
 unfolding digits has_parent
 returns-clause-two c = refl
 
+pub returns-clause-many : goal.returns-clause-many
+unfolding digits has_parent
+returns-clause-many c = refl
+
 pub returns-clause-sites : goal.returns-clause-sites
 unfolding digits has_parent
 returns-clause-sites c = refl

@@ -27,7 +27,6 @@ returns-clause-order c = record {
   rows =
       refl;
   promises = refl;
-  promisers = refl;
   hands = refl;
   few = refl;
   offers = refl;
@@ -50,7 +49,6 @@ returns-clause-whole c = record {
         refl;
     rows = refl;
     promises = refl;
-    promisers = refl;
     hands = refl;
     few = refl;
     offers = refl;

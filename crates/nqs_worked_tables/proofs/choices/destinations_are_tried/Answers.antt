@@ -10,6 +10,10 @@ pub returns-clause-taken : goal.returns-clause-taken
 unfolding digits
 returns-clause-taken c = refl
 
+pub returns-clause-window : goal.returns-clause-window
+unfolding digits
+returns-clause-window c = refl
+
 pub returns-clause-refused : goal.returns-clause-refused
 unfolding digits
 returns-clause-refused c = refl

@@ -10,6 +10,10 @@ pub returns-clause-last : goal.returns-clause-last
 unfolding digits
 returns-clause-last c = refl
 
+pub returns-clause-window : goal.returns-clause-window
+unfolding digits
+returns-clause-window c = refl
+
 pub returns-clause-committed : goal.returns-clause-committed
 unfolding digits
 returns-clause-committed c = refl

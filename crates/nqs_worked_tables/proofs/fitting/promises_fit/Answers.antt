@@ -30,6 +30,18 @@ pub returns-clause-room_of_its_own : goal.returns-clause-room_of_its_own
 unfolding digits
 returns-clause-room_of_its_own c = refl
 
+pub returns-clause-room_below : goal.returns-clause-room_below
+unfolding digits
+returns-clause-room_below c = refl
+
+pub returns-clause-old : goal.returns-clause-old
+unfolding digits
+returns-clause-old c = refl
+
+pub returns-clause-old_room : goal.returns-clause-old_room
+unfolding digits
+returns-clause-old_room c = refl
+
 pub returns-clause-promises : goal.returns-clause-promises
 unfolding digits
 returns-clause-promises c = refl

@@ -6,6 +6,14 @@ pub returns-clause-promised : goal.returns-clause-promised
 unfolding digits
 returns-clause-promised c = refl
 
+pub returns-clause-beside : goal.returns-clause-beside
+unfolding digits
+returns-clause-beside c = refl
+
+pub returns-clause-old : goal.returns-clause-old
+unfolding digits
+returns-clause-old c = refl
+
 pub returns-clause-accepted : goal.returns-clause-accepted
 unfolding digits
 returns-clause-accepted c = refl

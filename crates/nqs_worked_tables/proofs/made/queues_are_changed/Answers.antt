@@ -26,6 +26,10 @@ pub returns-clause-remove_dest : goal.returns-clause-remove_dest
 unfolding digits
 returns-clause-remove_dest c = refl
 
+pub returns-clause-first_dest : goal.returns-clause-first_dest
+unfolding digits
+returns-clause-first_dest c = refl
+
 pub returns-clause-parameters : goal.returns-clause-parameters
 unfolding digits
 returns-clause-parameters c = refl

@@ -14,9 +14,9 @@ pub returns-clause-arrivals : goal.returns-clause-arrivals
 unfolding digits
 returns-clause-arrivals c = refl
 
-pub returns-clause-promisers : goal.returns-clause-promisers
+pub returns-clause-promises : goal.returns-clause-promises
 unfolding digits
-returns-clause-promisers c = refl
+returns-clause-promises c = refl
 
 pub returns-clause-offers : goal.returns-clause-offers
 unfolding digits

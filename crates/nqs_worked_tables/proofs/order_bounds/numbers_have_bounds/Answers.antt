@@ -15,6 +15,10 @@ pub returns-clause-peers : goal.returns-clause-peers
 unfolding digits has_parent
 returns-clause-peers c = refl
 
+pub returns-clause-closed : goal.returns-clause-closed
+unfolding digits has_parent
+returns-clause-closed c = refl
+
 pub returns-clause-stages : goal.returns-clause-stages
 unfolding digits has_parent
 returns-clause-stages c = refl

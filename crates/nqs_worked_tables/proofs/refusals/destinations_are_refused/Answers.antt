@@ -18,6 +18,14 @@ pub returns-clause-remove : goal.returns-clause-remove
 unfolding digits
 returns-clause-remove c = refl
 
+pub returns-clause-first : goal.returns-clause-first
+unfolding digits
+returns-clause-first c = refl
+
+pub returns-clause-first_kind : goal.returns-clause-first_kind
+unfolding digits
+returns-clause-first_kind c = refl
+
 pub returns-clause-remove_kind : goal.returns-clause-remove_kind
 unfolding digits
 returns-clause-remove_kind c = refl

@@ -1,4 +1,4 @@
-use Rattle.std.proofs.Common.{◌∙◌, false, [], refl}
+use Rattle.std.proofs.Common.{◌∙◌, [], refl}
 use Rattle.nqs_journal.specs.Text.{header}
 use Rattle.nqs_journal.proofs.Counts.{few, within, counted_by}
 use Rattle.nqs_journal.proofs.journal.Journal.load.Goals as goal
@@ -16,5 +16,5 @@ invariant_of-result-clause-few g c =
 pub invariant_of-result-clause-counted : goal.invariant_of-result-clause-counted
 invariant_of-result-clause-counted g c = λ told running.
     let read = c.in-Ok-read_journal in
-    counted_by _ _ _ _ false [] read.reading.payloads.items (read.ensures.reads.same told) (c.requires told) (refl, read.ensures.stands told) read.ensures.gate
+    counted_by _ _ _ _ 0 [] read.reading.payloads.items (read.ensures.reads.same told) (c.requires told) (refl, read.ensures.stands told) read.ensures.gate
     (c.len-count.ensures ∙ read.reading.payloads.ok.0)

@@ -1,0 +1,7 @@
+use Rattle.std.proofs.Common.{refl}
+use Rattle.std.specs.Fmt.{digits}
+use Rattle.nqs_worked.proofs.many_handovers.silent_offers_are_passed.Goals as goal
+
+pub returns : goal.returns
+unfolding digits
+returns c = refl
