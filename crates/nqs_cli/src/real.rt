@@ -46,6 +46,8 @@ const LONGEST_SITE: u64 = 4096;
 #[derive(Drop)]
 pub struct RealMachine {
     rt: HostRuntime,
+    // The forms that the words of its program may have.
+    forms: &'static str,
     lock: Option<HostLock>,
     // The folder of the disks that were lent last.
     folder: String,
@@ -202,10 +204,11 @@ fn had<T: Drop>(rt: &HostRuntime, what: &str, made: io::Result<T>) -> Result<T, 
 }
 
 impl RealMachine {
-    /// A machine that has lent nothing.
-    pub fn new(rt: HostRuntime) -> RealMachine {
+    /// A machine that has lent nothing, of a program whose words may have these forms.
+    pub fn new(rt: HostRuntime, forms: &'static str) -> RealMachine {
         RealMachine {
             rt,
+            forms,
             lock: None,
             folder: String::new(rt.alloc()),
             faults: 0,
@@ -393,7 +396,7 @@ impl Notices for RealMachine {
     type N = RealNotes;
 
     fn not_in_form(&self) {
-        tell_forms(&self.rt);
+        tell_forms(&self.rt, self.forms);
     }
 
     fn no_such_host(&self, dir: &str, name: &str) {

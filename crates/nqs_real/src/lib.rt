@@ -4,6 +4,7 @@
 //! what may outlive it.
 #![tactic(auto)]
 
+mod account;
 mod clock;
 mod counted;
 mod disk;
@@ -30,6 +31,7 @@ mod starter;
 mod streams;
 mod wire;
 
+pub use account::{account_name, caller_name};
 pub use clock::SystemClock;
 pub use disk::{FileDisk, HostDisks, missing_disk, open_disks};
 pub use folder::{HostLock, host_folder, lock_holder, make_host_folder};
