@@ -54,7 +54,7 @@ abbrev Line : LineKind → (Options → Read Options) → List ℕ → ℕ → �
 Line k g script line place o = line_options k script line place o >>= (λ (step : Options × Bool). go_on step g)
 
 abbrev OfLine : List ℕ → ℕ → ℕ → Options → Read Options
-OfLine script line place o = read_words 12 Script [] (take (line_end script place) script) line 1 (place + 3) o
+OfLine script line place o = read_words 13 Script [] (take (line_end script place) script) line 1 (place + 3) o
 
 -- what such a line gives, and what it fails with
 abbrev GivesOf : List ℕ → ℕ → Options → Options → Type 0
@@ -166,7 +166,7 @@ reads-both : (words : List (List ℕ)) (script : List ℕ)
     × ScriptFails script x))
 unfolding both_options
 reads-both words script =
-    reads-bind (read_words 12 Command words [] 0 1 0 no_options) (λ (command : Options). script_options (length script) script 1 0 no_options >>=
+    reads-bind (read_words 13 Command words [] 0 1 0 no_options) (λ (command : Options). script_options (length script) script 1 0 no_options >>=
     (λ scripted. Ok (merged command scripted)))
     (WordsGive Command words [] 0 no_options) (WordsFail Command words [] 0 0 no_options)
     (λ (command o : Options). (scripted : Options) × ScriptGives script scripted × (o ≡ merged command scripted)) (λ (command : Options). ScriptFails script)

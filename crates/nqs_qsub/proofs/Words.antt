@@ -28,9 +28,9 @@ abbrev pub left : Options → ℕ
 left o =
     missing (is_some o.queue) + missing (is_some o.priority) + missing (is_some o.job_name) + missing (is_some o.earliest) + missing (is_some o.out)
     + missing (is_some o.error)
-    + missing o.join + missing o.no_rerun + missing (is_some o.cpu) + missing (is_some o.memory) + missing (is_some o.forms)
+    + missing o.join + missing o.no_rerun + missing (is_some o.cpu) + missing (is_some o.memory) + missing (is_some o.forms) + missing (is_some o.folder)
 
-pub few : (o : Options) → left o < 12
+pub few : (o : Options) → left o < 13
 few o =
     let a = at_most_one (is_some o.queue) in
     let b = at_most_one (is_some o.priority) in
@@ -43,6 +43,7 @@ few o =
     let i = at_most_one (is_some o.cpu) in
     let j = at_most_one (is_some o.memory) in
     let k = at_most_one (is_some o.forms) in
+    let l = at_most_one (is_some o.folder) in
     omega arith
 
 given-Ok : {A : Type 0} (v : Option A) (why : WordsCause) (set : A → Options) (more : Options) → given v why set ≡ Ok more → (a : A) × (more ≡ set a)
@@ -78,6 +79,8 @@ valued-fewer o flag.Memory text at more t g e = let v = given-Ok (size_of text) 
     let l = ap left v.1 in let m = missing_one (is_some o.memory) g in omega arith
 valued-fewer o flag.Forms text at more t g e = let v = given-Ok (name_of text) cause.BadName (λ (q : List ℕ). record o { forms = Some q }) more e in
     let l = ap left v.1 in let m = missing_one (is_some o.forms) g in omega arith
+valued-fewer o flag.Folder text at more t g e = let v = given-Ok (name_of text) cause.BadName (λ (q : List ℕ). record o { folder = Some q }) more e in
+    let l = ap left v.1 in let m = missing_one (is_some o.folder) g in omega arith
 
 pub fewer : (source : Source) (words : List (List ℕ)) (text : List ℕ) (n place : ℕ) (o : Options) (p : Progress) → GivesOption source words text n place o p
     → left p.options + 1 ≡ left o
@@ -159,8 +162,8 @@ words-fail (suc m) source words text line n place o (p ∷ steps) x less (gives,
     (words-fail m source words text line p.number p.place p.options steps x (omega arith) rest)
 
 pub reads-words : (source : Source) (words : List (List ℕ)) (text : List ℕ) (line place : ℕ) (o : Options)
-    → Reads (read_words 12 source words text line 1 place o) (WordsGive source words text place o) (WordsFail source words text line place o)
+    → Reads (read_words 13 source words text line 1 place o) (WordsGive source words text place o) (WordsFail source words text line place o)
 reads-words source words text line place o = (
-  (λ all. (words-Ok 12 source words text line 1 place o all, (λ h. words-give 12 source words text line 1 place o all h.0 (few o) h.1))),
-  (λ x. (words-Err 12 source words text line 1 place o x (few o), (λ h. words-fail 12 source words text line 1 place o h.0 x (few o) h.1))),
+  (λ all. (words-Ok 13 source words text line 1 place o all, (λ h. words-give 13 source words text line 1 place o all h.0 (few o) h.1))),
+  (λ x. (words-Err 13 source words text line 1 place o x (few o), (λ h. words-fail 13 source words text line 1 place o h.0 x (few o) h.1))),
 )

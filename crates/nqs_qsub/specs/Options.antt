@@ -30,7 +30,8 @@ flag_of bytes =
     (if name_eq (codes "-nr") bytes then Some flag.NoRerun else
     (if name_eq (codes "-lT") bytes then Some flag.Cpu else
     (if name_eq (codes "-lM") bytes then Some flag.Memory else
-    (if name_eq (codes "-f") bytes then Some flag.Forms else None))))))))))
+    (if name_eq (codes "-f") bytes then Some flag.Forms else
+    (if name_eq (codes "-do") bytes then Some flag.Folder else None)))))))))))
 
 -- no option was given
 abbrev pub no_options : Options
@@ -48,6 +49,7 @@ no_options =
       memory =
           None;
       forms = None;
+      folder = None;
     }
 
 -- was the option given?
@@ -63,6 +65,7 @@ is_given o flag.NoRerun = o.no_rerun
 is_given o flag.Cpu = is_some o.cpu
 is_given o flag.Memory = is_some o.memory
 is_given o flag.Forms = is_some o.forms
+is_given o flag.Folder = is_some o.folder
 
 -- is it one of `-e` and `-eo`, and the other was given?
 unfoldable pub is_both : Options → Flag → Bool
@@ -106,6 +109,7 @@ valued o flag.Error text at = given (path_at text at) cause.BadPath (λ p. recor
 valued o flag.Cpu text at = given (time_of text) cause.BadNumber (λ n. record o { cpu = Some n })
 valued o flag.Memory text at = given (size_of text) cause.BadNumber (λ n. record o { memory = Some n })
 valued o flag.Forms text at = given (name_of text) cause.BadName (λ f. record o { forms = Some f })
+valued o flag.Folder text at = given (name_of text) cause.BadName (λ f. record o { folder = Some f })
 valued o _ text at = Ok o
 
 -- ---- words in order

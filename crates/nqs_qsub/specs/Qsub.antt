@@ -32,12 +32,13 @@ merged c s =
       cpu = option_or c.cpu s.cpu;
       memory = option_or c.memory s.memory;
       forms = option_or c.forms s.forms;
+      folder = option_or c.folder s.folder;
     }
 
 -- the options of the command and of the script together, or the first fault
 unfoldable pub both_options : List (List ℕ) → List ℕ → Read Options
 both_options words script = do
-  command ← read_words 12 Command words [] 0 1 0 no_options
+  command ← read_words 13 Command words [] 0 1 0 no_options
   scripted ← script_options (length script) script 1 0 no_options
   Ok (merged command scripted)
 

@@ -27,6 +27,7 @@ pub enum Flag {
     Cpu,
     Memory,
     Forms,
+    Folder,
 }
 
 /// The options that were given. A path is named by its place among the words.
@@ -43,6 +44,8 @@ pub struct Options {
     pub cpu: Option<u64>,
     pub memory: Option<u64>,
     pub forms: Option<Name>,
+    /// The folder in which the outputs stand.
+    pub folder: Option<Name>,
 }
 
 /// No option.
@@ -61,6 +64,7 @@ pub(crate) fn no_options() -> Options
         cpu: None,
         memory: None,
         forms: None,
+        folder: None,
     }
 }
 
@@ -102,6 +106,9 @@ pub(crate) fn flag_of(bytes: &[u8]) -> Option<Flag>
     if b"-f".as_slice() == bytes {
         return Some(Flag::Forms);
     }
+    if b"-do".as_slice() == bytes {
+        return Some(Flag::Folder);
+    }
     None
 }
 
@@ -122,6 +129,7 @@ pub(crate) fn is_given(options: &Options, flag: Flag) -> bool
         Flag::Cpu => options.cpu.is_some(),
         Flag::Memory => options.memory.is_some(),
         Flag::Forms => options.forms.is_some(),
+        Flag::Folder => options.folder.is_some(),
     }
 }
 
@@ -313,6 +321,19 @@ fn with_forms(options: Options, text: &[u8]) -> Result<Options, WordsCause>
     }
 }
 
+#[tactic(auto, unfolding(crate::specs::Options::valued))]
+fn with_folder(options: Options, text: &[u8]) -> Result<Options, WordsCause>
+    ensures { result ≡ valued options flag.Folder text.now (InCommand 0) }
+{
+    match name_of(text) {
+        Some(folder) => Ok(Options {
+            folder: Some(folder),
+            ..options
+        }),
+        None => Err(WordsCause::BadName),
+    }
+}
+
 /// The options with one and the text of its value, which stands at that place.
 #[tactic(auto, unfolding(crate::specs::Options::valued))]
 pub(crate) fn valued(
@@ -333,6 +354,7 @@ pub(crate) fn valued(
         Flag::Cpu => with_cpu(options, text),
         Flag::Memory => with_memory(options, text),
         Flag::Forms => with_forms(options, text),
+        Flag::Folder => with_folder(options, text),
         _ => Ok(options),
     }
 }

@@ -54,6 +54,7 @@ fn merged(command: &Options, script: &Options) -> Options
         cpu: command.cpu.or(script.cpu),
         memory: command.memory.or(script.memory),
         forms: command.forms.or(script.forms),
+        folder: command.folder.or(script.folder),
     }
 }
 
@@ -62,7 +63,7 @@ fn both_options(words: &[Bytes], script: &[u8]) -> Result<Options, WordsFault>
     requires { length script.now ≤ 32768 }
     ensures { result ≡ both_options words.now script.now }
 {
-    let command = read_words(12, Source::Command, words, b"", 0, 1, 0, no_options())?;
+    let command = read_words(13, Source::Command, words, b"", 0, 1, 0, no_options())?;
     let scripted = script_options(script)?;
     Ok(merged(&command, &scripted))
 }

@@ -1,10 +1,10 @@
-use Rattle.std.proofs.Common.{inl, inr, Option, map, string_bytes, refl, subst, arith}
+use Rattle.std.proofs.Common.{inl, inr, Option, refl, sym, subst, arith}
 use Rattle.nqs_outside.proofs.Told.{extends_none}
 use Rattle.nqs_outside.specs.Streams.{fed, sunk}
 use Rattle.nqs_clients.specs.declared.status.NqsStatus.TheVariants.{BadWords}
 use Rattle.nqs_cli.specs.Forms.{Words}
 use Rattle.nqs_cli.specs.Callers.{RunsAsked}
-use Rattle.nqs_cli.specs.Runs.{Runs, no_parts, seen}
+use Rattle.nqs_cli.specs.Runs.{no_parts, seen}
 use Rattle.nqs_cli.proofs.Using.{uses_none, uses_as}
 use Rattle.nqs_cli.proofs.caller.run_as.Goals as goal
 
@@ -29,6 +29,5 @@ returns-in-Ok-Some g c =
     (sunk g.K.Sink.taken g.K.Sink.faults g.K.Sink.stalls c.args.out.now c.run.new.out) in
     let some = rw c.in-Ok-Some.field-0-is at c.in-Ok-Some.ensures in
     uses_as _ _ _ _
-    (λ parts did. inl (subst (λ (asked : Option Words). RunsAsked e asked parts c.run.result) some
-    (subst (λ typed. Runs e (map (λ s. string_bytes s) typed) parts c.run.result) c.deref.ensures.value did)))
+    (λ parts did. inl (subst (λ (asked : Option Words). RunsAsked e asked parts c.run.result) some did))
     c.run.ensures.parts
