@@ -54,10 +54,22 @@ def free_port():
         return bound.getsockname()[1]
 
 
+def root_port():
+    """A port below 1024 that is free now, which root alone can have."""
+    for port in range(607, 1024):
+        with socket.socket(socket.AF_INET, socket.SOCK_DGRAM) as bound:
+            try:
+                bound.bind(("127.0.0.1", port))
+            except OSError:
+                continue
+            return port
+    sys.exit("no port below 1024 is free")
+
+
 def site_of_one(folder, key=None):
     """Makes a folder the site of one host, alpha, at a free port, which it answers. The site is
-    open, or has this key of 32 bytes."""
-    port = free_port()
+    open, or has this key of 32 bytes, under which root's daemon has a port of root's."""
+    port = root_port() if key and os.geteuid() == 0 else free_port()
     with open(os.path.join(folder, "site"), "w", encoding="ascii") as site:
         site.write(f"alpha 127.0.0.1 {port}\n")
     path = os.path.join(folder, "key")

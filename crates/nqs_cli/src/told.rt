@@ -229,6 +229,26 @@ pub(crate) fn tell_port(
     Ok(())
 }
 
+/// Says that a host's port is one that any user of its machine can have.
+pub(crate) fn tell_high_port(rt: &HostRuntime, dir: &str, host: &SiteHost) -> io::Result<()> {
+    let name = name_text(Some(&host.name));
+    let text = format!(in rt.alloc();
+        "{dir}/site: port {} of {name} is above 1023, so any user can have it: NQS's own is 607",
+        host.port
+    )?;
+    tell(rt, &text);
+    Ok(())
+}
+
+/// Says that others than root can change what stands in a host's folder.
+pub(crate) fn tell_not_roots(rt: &HostRuntime, folder: &str) -> io::Result<()> {
+    let text = format!(in rt.alloc();
+        "{folder}, or a folder on the way to it, isn't root's alone to write: under a key root's daemon serves no other"
+    )?;
+    tell(rt, &text);
+    Ok(())
+}
+
 /// Says which line of a site's file is wrong.
 pub(crate) fn tell_line(rt: &HostRuntime, dir: &str, line: u64) -> io::Result<()> {
     tell(
