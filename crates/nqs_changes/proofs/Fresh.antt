@@ -1,5 +1,6 @@
 -- Keys that nothing has yet, in a host in order.
-use Rattle.std.proofs.Common.{◌≡◌, ℕ, Bool, true, false, cond, ◌&&◌, ◌||◌, ◌==◌, ◌<◌, nat_lt, List, [], ◌∷◌, filter, Option, None, Some, refl, sym, ap, subst, ◌∙◌, true≢false}
+use Rattle.std.proofs.Common.{◌≡◌, ℕ, Bool, true, false, cond, ◌&&◌, ◌||◌, ◌==◌, ◌<◌, nat_lt, List, [], ◌∷◌, filter, Option, None, Some, refl, sym, ap, subst}
+use Rattle.std.proofs.Common.{◌∙◌, true≢false}
 use Rattle.std.proofs.lemmas.Bool.{and_parts, eqb-true, ltb-true, false_from_ne_true}
 use Rattle.std.specs.List.{list_any}
 use Rattle.nqs_state.specs.State.{State}

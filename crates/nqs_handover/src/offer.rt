@@ -134,8 +134,9 @@ fn promise(
 }
 
 /// OFFER: the request is promised and READY goes out, or REFUSED with the number of the first
-/// refusal. By a promise the numbers below `low`, from 1 to the number, are closed. DONE goes out where the number is closed, and READY where it is promised already. The
-/// script of a request that is promised is taken out of `script`; what is left there isn't told.
+/// refusal. By a promise the numbers below `low`, from 1 to the number, are closed. DONE goes out
+/// where the number is closed, and READY where it is promised already. The script of a request that
+/// is promised is taken out of `script`; what is left there isn't told.
 pub fn on_offer(
     alloc: Global,
     state: &HostState,

@@ -3,7 +3,8 @@ ghost use Rattle.std.specs.Prelude.{◌≡◌, ◌∷◌, ◌++◌, [], false, I
 ghost use Rattle.nqs_rules.specs.Find.{find_row};
 ghost use Rattle.nqs_state.specs.State.{content};
 ghost use Rattle.nqs_rules.specs.Routing.{low};
-ghost use Rattle.nqs_rules.specs.Handover.{later, is_silent, silent_hands, staying_hands, repeat_offer, repeat_phase, repeat_hand, send_inquire, silence, on_tick};
+ghost use Rattle.nqs_rules.specs.Handover.{later, is_silent, silent_hands, staying_hands, repeat_offer, repeat_phase, repeat_hand, send_inquire, silence};
+ghost use Rattle.nqs_rules.specs.Handover.{on_tick};
 ghost use Rattle.nqs_rules.specs.Stepped.{plan_of};
 ghost use Rattle.nqs_plans.specs.More.{with_more};
 ghost use Rattle.nqs_handover.specs.Opened.{may_count_hops};

@@ -9,7 +9,8 @@ use Rattle.nqs_records.specs.Faults.{is_kind}
 use Rattle.nqs_records.proofs.Steady.{IsSteady, both_steady}
 use Rattle.nqs_records.proofs.SteadyFields.{u8_steady, u64_steady, opt_steady}
 use Rattle.nqs_records.proofs.SteadyNames.{name_steady, path_steady}
-use Rattle.nqs_records.proofs.SteadyParts.{host_steady, id_steady, extent_steady, job_steady, carried_steady, site_steady, parts_steady, hands_steady, low_steady}
+use Rattle.nqs_records.proofs.SteadyParts.{host_steady, id_steady, extent_steady, job_steady, carried_steady, site_steady, parts_steady, hands_steady}
+use Rattle.nqs_records.proofs.SteadyParts.{low_steady}
 use Rattle.nqs_records.proofs.SteadyEdits.{edit_steady}
 use Rattle.nqs_records.proofs.SteadyTables.{no_row, table_steady}
 

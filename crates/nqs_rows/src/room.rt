@@ -20,15 +20,24 @@ pub fn is_host_full(state: &HostState) -> bool
     state.promises.len() >= MOST_HELD.saturating_sub(state.rows.len())
 }
 
-/// Whether the host has no room for one more request that the peer offers. Promises to the peer
-/// under a number below its low aren't counted, since the offer ends them.
-pub fn offer_full(state: &HostState, peer: HostId, low: u64) -> bool
+// Whether the host has no room for one more request beside those promises that the offer doesn't
+// end.
+fn is_full_of_others(state: &HostState, peer: HostId, low: u64) -> bool
     ensures { result ≡ offer_full peer low (content state.now) }
 {
     let others = state
         .promises
         .count(|promise: &Promise| !is_outlived(promise, peer, low));
     others >= MOST_HELD.saturating_sub(state.rows.len())
+}
+
+/// Whether the host has no room for one more request that the peer offers. Promises to the peer
+/// under a number below its low aren't counted, since the offer ends them. They are looked at only
+/// where all promises together leave no room.
+pub fn offer_full(state: &HostState, peer: HostId, low: u64) -> bool
+    ensures { result ≡ offer_full peer low (content state.now) }
+{
+    is_host_full(state) && is_full_of_others(state, peer, low)
 }
 
 /// Whether the last arrival number was given.

@@ -1,5 +1,5 @@
 -- A commit from its two parts: a checkpoint, where one is due, and the calls of the change.
-use Rattle.std.proofs.Common.{◌≡◌, ◌≢◌, inl, inr, ℕ, ◌+◌, ◌≤◌, Bool, true, false, not, IsTrue, if◌then◌else◌, List, [], ◌∷◌, ◌++◌, length, map, Ok, refl, sym}
+use Rattle.std.proofs.Common.{◌≡◌, inl, inr, ℕ, ◌+◌, ◌≤◌, Bool, true, false, not, IsTrue, if◌then◌else◌, List, [], ◌∷◌, ◌++◌, length, map, Ok, refl, sym}
 use Rattle.std.proofs.Common.{ap, true≢false}
 use Rattle.std.proofs.Common.{subst, ◌∙◌, arith, length-append}
 use Rattle.std.proofs.lemmas.List.{length-map, append-nil}

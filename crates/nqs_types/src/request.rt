@@ -43,21 +43,21 @@ pub enum RowState {
 pub struct Job {
     pub name: Name,
     pub owner: Name,
-    /// From 0 to 63; the greater starts first.
-    pub priority: u8,
-    /// The earliest start, in seconds since 1970.
-    pub earliest: u64,
-    /// Whether it may be started again after a stop of its host.
-    pub rerun: bool,
-    pub limits: Limits,
     /// The forms that its device must have.
     pub forms: Option<Name>,
+    /// From 0 to 63; the greater starts first.
+    pub priority: u8,
+    /// Whether it may be started again after a stop of its host.
+    pub rerun: bool,
+    /// Whether the error output goes into the output.
+    pub join: bool,
+    /// The earliest start, in seconds since 1970.
+    pub earliest: u64,
+    pub limits: Limits,
     /// The path of its output.
     pub out: Bytes,
     /// The path of its error output.
     pub err: Bytes,
-    /// Whether the error output goes into the output.
-    pub join: bool,
 }
 
 // Written out, so that a job is let go by a call, and not field by field in each function that owns

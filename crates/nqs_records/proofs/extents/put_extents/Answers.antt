@@ -3,7 +3,8 @@ use Rattle.nqs_types.specs.declared.change.Change.TheVariants.{Submitted, OldPro
 use Rattle.nqs_records.specs.Spelling.{extent_field, part_field}
 use Rattle.nqs_records.specs.Changes.{spelling}
 use Rattle.nqs_records.specs.Extents.{first_or, parts_with, with_extents}
-use Rattle.nqs_records.proofs.PutBack.{length-extent, submitted_front, submitted_ends, old_promised_front, old_promised_ends, promised_front, promised_ends, got_front, got_ends, ended_front}
+use Rattle.nqs_records.proofs.PutBack.{length-extent, submitted_front, submitted_ends, old_promised_front, old_promised_ends, promised_front, promised_ends}
+use Rattle.nqs_records.proofs.PutBack.{got_front, got_ends, ended_front}
 use Rattle.nqs_records.proofs.PutBack.{ended_ends, length-parts_with}
 use Rattle.nqs_records.proofs.extents.put_extents.Goals as goal
 

@@ -1,4 +1,4 @@
-use Rattle.std.proofs.Common.{rules, ◌≡◌, ◌∙◌, ◌++◌, map, OnOk, sym, ap, subst}
+use Rattle.std.proofs.Common.{rules, ◌≡◌, ◌∙◌, ◌++◌, map, OnOk, ap, subst}
 use Rattle.nqs_store.specs.Live.{row_part}
 use Rattle.nqs_store.proofs.live.add_rows.Goals as goal
 

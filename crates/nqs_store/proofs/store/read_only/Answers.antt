@@ -1,5 +1,5 @@
 use Rattle.std.proofs.Common.{◌≡◌, inl, inr, true, false, refl, sym, ◌∙◌}
-use Rattle.nqs_types.specs.declared.world.Which.TheVariants.{Root, First, Second, Spool}
+use Rattle.nqs_types.specs.declared.world.Which.TheVariants.{Root}
 use Rattle.nqs_store.specs.Disks.{histories_of, contents}
 use Rattle.nqs_store.proofs.EachDisk.{each_disk}
 use Rattle.nqs_store.proofs.Opening.{one_same, each_reads}

@@ -1,5 +1,5 @@
 use Rattle.std.proofs.Common.{◌≡◌, inl, inr, true, false, refl, sym, ◌∙◌}
-use Rattle.nqs_types.specs.declared.world.Which.TheVariants.{Root, First, Second, Spool}
+use Rattle.nqs_types.specs.declared.world.Which.TheVariants.{Root}
 use Rattle.nqs_store.specs.Disks.{contents}
 use Rattle.nqs_store.specs.Stores.{history_of}
 use Rattle.nqs_store.proofs.EachDisk.{each_disk}
