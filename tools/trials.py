@@ -36,7 +36,7 @@ def of_bench(name):
 def refusing(compiler, folder):
     """The path of `bench/refuse.c`, compiled into a folder as a library for LD_PRELOAD."""
     library = os.path.join(folder, "refuse.so")
-    subprocess.run([compiler, "-O1", "-shared", "-fPIC", "-o", library, of_bench("refuse.c")], check=True)
+    subprocess.run([compiler, "-O1", "-fno-omit-frame-pointer", "-shared", "-fPIC", "-o", library, of_bench("refuse.c")], check=True)
     return library
 
 

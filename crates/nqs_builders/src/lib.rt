@@ -7,7 +7,8 @@ use nqs_base::{Bytes, Extent, Items, Key, Keyed, ListOf, Memory, Name, Spare};
 use nqs_base_tables::Table;
 use nqs_state::{HostState, Rows};
 use nqs_types::{
-    Access, Hold, HostId, Job, Kind, Limits, Peer, QueueDef, RequestId, Row, RowState,
+    Access, Hand, Hold, HostId, Job, Kind, Limits, Peer, Phase, QueueDef, RequestId, Row, RowState,
+    batch,
 };
 use std::alloc::Global;
 
@@ -77,6 +78,21 @@ pub fn row(alloc: Global, seq: u32, queue: Name, owner: Name) -> Row {
         device: None,
         refused: ListOf::new(alloc),
         script: NOTHING,
+    }
+}
+
+/// A handover of a request of the first host to the second, since this moment.
+pub fn hand(number: u64, seq: u32, since: u64, phase: Phase) -> Hand {
+    Hand {
+        peer: HostId(1),
+        number,
+        id: RequestId {
+            seq,
+            host: HostId(0),
+        },
+        queue: batch(),
+        since,
+        phase,
     }
 }
 

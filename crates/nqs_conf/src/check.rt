@@ -4,7 +4,8 @@ ghost use Rattle.nqs_state.specs.State.{content};
 ghost use Rattle.nqs_types.specs.declared.edit.ConfEdit.{ConfEdit};
 ghost use Rattle.nqs_types.specs.declared.refusal.Refusal.TheVariants as refusal;
 ghost use Rattle.nqs_rules.specs.Causes.{cause, first_refusal};
-ghost use Rattle.nqs_rules.specs.Conf.{conf_causes, create_causes, create_pipe_causes, has_full_dests, is_pipe_queue, listed_dest_causes, lists_dest, no_host_cause, promise_in};
+ghost use Rattle.nqs_rules.specs.Conf.{conf_causes, create_causes, create_pipe_causes, has_full_dests, is_pipe_queue, listed_dest_causes, lists_dest};
+ghost use Rattle.nqs_rules.specs.Conf.{no_host_cause, promise_in};
 ghost use Rattle.nqs_rules.specs.Conf.{row_in};
 ghost use Rattle.nqs_rules.specs.Find.{held_count, meant_dest};
 

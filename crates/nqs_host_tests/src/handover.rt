@@ -1,22 +1,18 @@
 //! Each call of handovers that takes memory, once, on one host: alpha, which has a committed
 //! handover to beta, an offered one, and a promise of beta's. What changes, and what is said.
 
-ghost use Rattle.std.specs.Prelude.{◌≡◌, OnOk, IsTrue};
+ghost use Rattle.std.specs.Prelude.{IsTrue};
 ghost use Rattle.nqs_state.specs.State.{content};
 ghost use Rattle.nqs_handover.specs.Opened.{may_count_hops};
 
+use crate::offers::{carried, fill_rows, promise};
 use nqs_base::{ListOf, Memory};
-use nqs_builders::{add, host, job, peer, queue, row, text};
+use nqs_builders::{add, hand, host, peer, queue, text};
 use nqs_handover::{on_commit, on_inquire, on_offer, on_ready, on_tick, open_hand};
-use nqs_state::{HostState, Rows};
-use nqs_types::{
-    Body, Carried, Change, Dest, Hand, HostId, Kind, Output, Phase, Plan, Promise, QueueDef,
-    RequestId, Row, batch,
-};
+use nqs_state::HostState;
+use nqs_types::{Body, Change, Dest, HostId, Kind, Output, Phase, Plan, QueueDef, batch};
 use std::alloc::Global;
 use std::rt::HostRuntime;
-
-const ALPHA: HostId = HostId(0);
 
 const BETA: HostId = HostId(1);
 
@@ -26,25 +22,6 @@ fn pipe_queue(alloc: Global, dests: ListOf<Dest>) -> QueueDef {
     queue.pipe_only = true;
     queue.dests = dests;
     queue
-}
-
-fn hand(number: u64, seq: u32, phase: Phase) -> Hand {
-    Hand {
-        peer: BETA,
-        number,
-        id: RequestId { seq, host: ALPHA },
-        queue: batch(),
-        since: 100,
-        phase,
-    }
-}
-
-fn promise(alloc: Global) -> Promise {
-    Promise {
-        peer: BETA,
-        number: 3,
-        row: row(alloc, 2, batch(), batch()),
-    }
 }
 
 // A host that knows beta, with a queue that leads there.
@@ -64,28 +41,9 @@ fn fill_site(alloc: Global, state: &mut HostState) -> Result<(), Memory> {
 }
 
 fn fill_hands(alloc: Global, state: &mut HostState) -> Result<(), Memory> {
-    add(&mut state.hands, hand(1, 3, Phase::Committed))?;
-    add(&mut state.hands, hand(2, 1, Phase::Offered))?;
-    add(&mut state.promises, promise(alloc))
-}
-
-fn offered_row(alloc: Global) -> Row
-    ensures { result.hops ≡ 0 }
-{
-    let mut row = row(alloc, 1, batch(), batch());
-    row.hops = 0;
-    row
-}
-
-// Its one request is the one that is offered.
-fn fill_rows(alloc: Global, state: &mut HostState) -> Result<(), Memory>
-    ensures { OnOk result (IsTrue (may_count_hops (content state.new))) }
-{
-    let mut rows = Rows::new(alloc);
-    rows.reserve(1)?;
-    rows.push(offered_row(alloc));
-    state.rows = rows;
-    Ok(())
+    add(&mut state.hands, hand(1, 3, 100, Phase::Committed))?;
+    add(&mut state.hands, hand(2, 1, 100, Phase::Offered))?;
+    add(&mut state.promises, promise(alloc, 3))
 }
 
 // A word for what changes or goes out, and the number of its handover.
@@ -142,13 +100,7 @@ fn said_again(plan: &Result<Plan, Memory>) -> (Word, Word, Word) {
 
 fn offered(alloc: Global, state: &HostState) -> Result<Answer, Memory> {
     let mut script = text(alloc, b"w")?;
-    let carried = Carried {
-        id: RequestId { seq: 5, host: BETA },
-        job: job(alloc, batch()),
-        starts: 0,
-        lost: 0,
-        hops: 1,
-    };
+    let carried = carried(alloc);
     let plan = on_offer(alloc, state, BETA, 4, 3, &batch(), &carried, &mut script);
     Ok(answer(&plan))
 }

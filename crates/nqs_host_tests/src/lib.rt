@@ -11,6 +11,8 @@ mod lists;
 #[cfg(test)]
 mod numbers;
 #[cfg(test)]
+mod offers;
+#[cfg(test)]
 mod plans;
 #[cfg(test)]
 mod stage;

@@ -1,21 +1,14 @@
 //! Numbers of handovers that are open at once, on one host: alpha. As the source it has eight to
 //! beta; as the receiver, closed numbers of beta's apart from its floor, and a promise.
 
-ghost use Rattle.std.specs.Prelude.{◌≡◌, OnOk, IsTrue};
-ghost use Rattle.nqs_state.specs.State.{content};
-ghost use Rattle.nqs_handover.specs.Opened.{may_count_hops};
-
+use crate::offers::{carried, fill_rows, promise};
 use nqs_base::{Bytes, ListOf, Memory};
-use nqs_builders::{add, host, job, peer, queue, row};
+use nqs_builders::{add, hand, host, peer, queue};
 use nqs_handover::{on_abort, on_commit, on_offer, on_tick};
-use nqs_state::{HostState, Rows};
-use nqs_types::{
-    Body, Carried, Change, Hand, HostId, Output, Peer, Phase, Plan, Promise, RequestId, Row, batch,
-};
+use nqs_state::HostState;
+use nqs_types::{Body, Change, HostId, Output, Peer, Phase, Plan, batch};
 use std::alloc::Global;
 use std::rt::HostRuntime;
-
-const ALPHA: HostId = HostId(0);
 
 const BETA: HostId = HostId(1);
 
@@ -56,22 +49,8 @@ fn changed(plan: &Plan) -> Word {
     }
 }
 
-// A handover to beta: the first three have waited since 50, the others since 100.
-fn hand(number: u64, phase: Phase) -> Hand {
-    Hand {
-        peer: BETA,
-        number,
-        id: RequestId {
-            seq: 1,
-            host: ALPHA,
-        },
-        queue: batch(),
-        since: if number < 4 { 50 } else { 100 },
-        phase,
-    }
-}
-
-// Eight handovers to beta, of which the fourth is committed.
+// Eight handovers to beta, of which the fourth is committed: the first three have waited since 50,
+// the others since 100.
 fn fill_hands(state: &mut HostState) -> Result<(), Memory> {
     for number in 1..9 {
         let phase = if number == 4 {
@@ -79,27 +58,9 @@ fn fill_hands(state: &mut HostState) -> Result<(), Memory> {
         } else {
             Phase::Offered
         };
-        add(&mut state.hands, hand(number, phase))?;
+        let since = if number < 4 { 50 } else { 100 };
+        add(&mut state.hands, hand(number, 1, since, phase))?;
     }
-    Ok(())
-}
-
-fn offered_row(alloc: Global) -> Row
-    ensures { result.hops ≡ 0 }
-{
-    let mut row = row(alloc, 1, batch(), batch());
-    row.hops = 0;
-    row
-}
-
-// The one request that is offered by each handover.
-fn fill_rows(alloc: Global, state: &mut HostState) -> Result<(), Memory>
-    ensures { OnOk result (IsTrue (may_count_hops (content state.new))) }
-{
-    let mut rows = Rows::new(alloc);
-    rows.reserve(1)?;
-    rows.push(offered_row(alloc));
-    state.rows = rows;
     Ok(())
 }
 
@@ -159,14 +120,7 @@ fn fill_promises(alloc: Global, state: &mut HostState) -> Result<(), Memory> {
     state.peers.push(peer(alloc, 1, 1))?;
     state.peers.push(beta(alloc)?)?;
     add(&mut state.queues, queue(alloc, batch()))?;
-    add(
-        &mut state.promises,
-        Promise {
-            peer: BETA,
-            number: 4,
-            row: row(alloc, 2, batch(), batch()),
-        },
-    )
+    add(&mut state.promises, promise(alloc, 4))
 }
 
 // What changes, and what goes out first.
@@ -179,13 +133,7 @@ fn answer(plan: &Result<Plan, Memory>) -> (Word, Word) {
 
 fn offered(alloc: Global, state: &HostState, number: u64, low: u64) -> (Word, Word) {
     let mut script: Bytes = ListOf::new(alloc);
-    let carried = Carried {
-        id: RequestId { seq: 5, host: BETA },
-        job: job(alloc, batch()),
-        starts: 0,
-        lost: 0,
-        hops: 1,
-    };
+    let carried = carried(alloc);
     let plan = on_offer(
         alloc,
         state,

@@ -1,11 +1,11 @@
 //! A handover of two hosts in the table: where its request lies, and the order of the rows.
 
 use nqs_base::Memory;
-use nqs_builders::{add, add_row, host, row};
+use nqs_builders::{add, add_row, hand, host, row};
 use nqs_rules_table::table_of;
 use nqs_state::HostState;
 use nqs_types::{
-    Hand, Hold, HostId, NetState, Phase, Promise, RequestId, Row, RowState, TableRow, batch,
+    Hold, HostId, NetState, Phase, Promise, RequestId, Row, RowState, TableRow, batch,
 };
 use std::alloc::Global;
 use std::rt::HostRuntime;
@@ -29,18 +29,6 @@ fn held(mut row: Row) -> Row {
     row
 }
 
-// A handover of a request to beta.
-fn hand(number: u64, seq: u32, phase: Phase) -> Hand {
-    Hand {
-        peer: BETA,
-        number,
-        id: RequestId { seq, host: ALPHA },
-        queue: batch(),
-        since: 0,
-        phase,
-    }
-}
-
 fn promise(alloc: Global, number: u64, seq: u32) -> Promise {
     Promise {
         peer: ALPHA,
@@ -56,8 +44,8 @@ fn fill_alpha(alloc: Global, alpha: &mut HostState) -> Result<(), Memory> {
         &mut alpha.rows,
         held(known(alloc, ALPHA, 1, RowState::Queued)),
     )?;
-    add(&mut alpha.hands, hand(1, 3, Phase::Committed))?;
-    add(&mut alpha.hands, hand(2, 4, Phase::Offered))
+    add(&mut alpha.hands, hand(1, 3, 0, Phase::Committed))?;
+    add(&mut alpha.hands, hand(2, 4, 0, Phase::Offered))
 }
 
 // A request of its own, and a promise of each handover.

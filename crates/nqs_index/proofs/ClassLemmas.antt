@@ -1,5 +1,5 @@
 -- The lines of a queue's classes, with an entry more, and with one less.
-use Rattle.std.proofs.Common.{◌≡◌, ℕ, ◌+◌, ◌<◌, ◌==◌, Bool, true, false, ◌&&◌, ◌||◌, List, [], ◌∷◌, ◌++◌, length, find, Some, position}
+use Rattle.std.proofs.Common.{◌≡◌, ℕ, ◌+◌, ◌<◌, ◌==◌, Bool, true, false, ◌&&◌, ◌||◌, List, [], ◌∷◌, ◌++◌, length, find, None, Some, position, slice_get}
 use Rattle.std.proofs.Common.{refl, sym, ap, ◌∙◌, arith, if◌then◌else◌, true≢false}
 use Rattle.std.specs.Prelude.{cond}
 use Rattle.std.specs.List.{list_any}
@@ -13,7 +13,8 @@ use Rattle.std.proofs.lemmas.Cmp.{nat_eq_equiv}
 use Rattle.nqs_base.specs.Same.{name_eq}
 use Rattle.nqs_base.proofs.Plain.{item_at}
 use Rattle.nqs_base_tables.specs.Table.{change_first, without_first}
-use Rattle.nqs_base_tables.proofs.KeyLemmas.{changed_at}
+use Rattle.nqs_base_tables.proofs.KeyLemmas.{changed_at, found_behind, none_found, place_is}
+use Rattle.nqs_base_tables.proofs.TableLemmas.{change_first-none}
 use Rattle.nqs_types.specs.Ids.{id_eq, id_exact}
 use Rattle.nqs_index.specs.declared.class.Class.{Class}
 use Rattle.nqs_index.specs.declared.classes.ClassLine.{ClassLine}
@@ -21,12 +22,13 @@ use Rattle.nqs_index.specs.declared.line.Entry.{Entry}
 use Rattle.nqs_index.specs.Keys.{is_before}
 use Rattle.nqs_index.specs.Lines.{IsInOrder, placed, without_entry, same_key, is_entry}
 use Rattle.nqs_index.specs.Classes.{class_eq, class_exact, is_class, number_in, EachLine, AreInOrder, AreFilled, AreApart, with_placed, with_taken, new_line}
-use Rattle.nqs_index.specs.Classes.{PutsAt, with_class, entered_in, if_filled, taken_from, is_empty_line, is_left_empty}
+use Rattle.nqs_index.specs.Classes.{PutsAt, TakesAt, with_class, entered_in, if_filled, taken_from, is_empty_line, is_left_empty, entries_of, line_of}
 use Rattle.nqs_index.specs.Numbers.{number}
 use Rattle.nqs_index.specs.Tallies.{one}
 use Rattle.nqs_index.proofs.LineLemmas.{in_order, order_left}
 use Rattle.nqs_index.proofs.Numbers.{number-cons, any_number, number_none}
 use Rattle.nqs_index.proofs.OrderLemmas.{key_exact, key_itself}
+use Rattle.nqs_index.proofs.PlaceLemmas.{found_at, none_placed}
 use Rattle.nqs_index.proofs.RunLemmas.{id_itself}
 
 -- a class is itself
@@ -296,3 +298,29 @@ module _ (c : Class) (x : Entry) where
           ≡ (if b then if_filled l.class (without_entry x l.line) ls else l ∷ taken_from c x ls)
       by true e rest = first (class_eq c l.class) e (without_entry x l.line)
       by false e rest = later (class_eq c l.class) e (change_first (is_class c) (with_taken x) ls) rest
+
+-- the line of a class is the one at its place
+pub line_found : (c : Class) (ls : List ClassLine) (i : ℕ) (l : ClassLine) → position (is_class c) ls ≡ Some i → slice_get ls i ≡ Some l → line_of c ls ≡ l.line
+line_found c ls i l at there = ap entries_of (found_at (is_class c) ls l (ap (slice_get ls) (place_is (is_class c) ls i at) ∙ there))
+
+-- a class that gets a line has nobody in it
+pub line_ensured : (c : Class) (ls : List ClassLine) → line_of c (with_class c ls) ≡ line_of c ls
+line_ensured c ls = by (list_any (is_class c) ls) refl
+  where
+    by : (b : Bool) → list_any (is_class c) ls ≡ b → line_of c (if b then ls else ls ++ new_line c ∷ []) ≡ line_of c ls
+    by true there = refl
+    by false none =
+        ap entries_of (found_behind (is_class c) ls (new_line c) none)
+        ∙ ap (λ b. entries_of (cond b (Some (new_line c)) None)) (class_itself c)
+        ∙ sym (ap entries_of (none_found (is_class c) ls none))
+
+-- an entry taken from the line at the place of its class
+pub taken_there : (c : Class) (x : Entry) (ls new : List ClassLine) (i : ℕ) → position (is_class c) ls ≡ Some i → i < length ls → TakesAt i x ls new
+    → new ≡ change_first (is_class c) (with_taken x) ls
+taken_there c x ls new i at within take =
+    let l = item_at ls i within in
+    take l.0 l.1 ∙ changed_at (is_class c) (with_taken x) ls i l.0 at l.1
+
+-- and from none where it has no place
+pub taken_nowhere : (c : Class) (x : Entry) (ls : List ClassLine) → position (is_class c) ls ≡ None → ls ≡ change_first (is_class c) (with_taken x) ls
+taken_nowhere c x ls none = sym (change_first-none (is_class c) (with_taken x) ls (none_placed (is_class c) ls none))

@@ -7,6 +7,7 @@ use Rattle.std.specs.List.{list_any, position_or_len}
 use Rattle.std.proofs.lemmas.Bool.{lt-ltb}
 use Rattle.std.proofs.lemmas.Option.{same_Some, none-some}
 use Rattle.nqs_base_tables.specs.Table.{change_first}
+use Rattle.nqs_base_tables.proofs.KeyLemmas.{none_found}
 
 module _ {V : Type 0} (test : V → Bool) where
   -- where one passes, the first such has a place
@@ -22,6 +23,14 @@ module _ {V : Type 0} (test : V → Bool) where
   pub has_place : (vs : List V) → list_any test vs ≡ true → position test vs ≡ None → ⊥
   has_place vs any none = none-some (position_or_len test vs)
       (sym none ∙ ap (λ b. cond b (Some (position_or_len test vs)) None) (lt-ltb (position_or_len test vs) (length vs) (within_any vs any)))
+
+  -- where there is no place none is found
+  pub none_placed : (vs : List V) → position test vs ≡ None → find test vs ≡ None
+  none_placed vs none = none_found test vs (by (list_any test vs) refl)
+    where
+      by : (b : Bool) → list_any test vs ≡ b → list_any test vs ≡ false
+      by true any = absurd (has_place vs any none)
+      by false is = is
 
   -- one passes behind others
   pub any_behind : (vs : List V) (v : V) → test v ≡ true → list_any test (vs ++ v ∷ []) ≡ true

@@ -1,7 +1,7 @@
 -- The lines of queues: what an entry more or less, or a queue more, leaves of them.
-use Rattle.std.proofs.Common.{◌≡◌, ℕ, ◌<◌, slice_set, Bool, true, false, List, [], ◌∷◌, ◌++◌, find, length, position, slice_get, Option}
+use Rattle.std.proofs.Common.{◌≡◌, ℕ, ◌<◌, slice_set, Bool, true, false, List, [], ◌∷◌, ◌++◌, find, length, position, slice_get}
 use Rattle.std.proofs.Common.{None, Some}
-use Rattle.std.proofs.Common.{option_map, refl, sym, ap, subst, ◌∙◌, if◌then◌else◌, IfSome}
+use Rattle.std.proofs.Common.{option_map, refl, sym, ap, subst, ◌∙◌, if◌then◌else◌}
 use Rattle.std.specs.Prelude.{cond}
 use Rattle.std.proofs.lemmas.Option.{same_Some}
 use Rattle.nqs_base.specs.Same.{name_eq, name_exact}
@@ -11,7 +11,8 @@ use Rattle.nqs_base_tables.proofs.KeyLemmas.{changed_at, found_changed, found_ot
 use Rattle.nqs_index.specs.declared.classes.ClassLine.{ClassLine}
 use Rattle.nqs_index.specs.declared.lines.QueueLines.{QueueLines}
 use Rattle.nqs_index.specs.QueueLines.{is_queue, lines_for, classes_under, with_classes, BecomesAt}
-use Rattle.nqs_index.proofs.PlaceLemmas.{found_at, change_same, set_twice}
+use Rattle.nqs_index.proofs.PlaceLemmas.{none_placed}
+use Rattle.nqs_index.proofs.PlaceLemmas.{found_at, set_twice}
 
 -- the lines of a queue after a change of one queue's
 changed : (k : Roomy ClassLine) (q queue : List ℕ) (ls : List QueueLines)
@@ -54,29 +55,22 @@ module _ (f : List ClassLine → List ClassLine) (queue : List ℕ) (ls : List Q
       let there = found_at (is_queue queue) ls v.0 (ap (slice_get ls) (place_is (is_queue queue) ls i at) ∙ v.1) in
       ap (classes_under q) (k.2 ∙ changed_at (is_queue queue) (with_classes k.0) ls i v.0 at v.1) ∙ became k.0 v.0 there k.1 q
 
-  -- one that is found by its name, if there is one
-  pub became_named : (new : List QueueLines) (Ran : QueueLines → QueueLines → Type 0)
-      → ((v w : QueueLines) → Ran v w → (w.name ≡ v.name) × (w.classes.items ≡ f v.classes.items)) → f [] ≡ []
-      → ((find (is_queue queue) ls ≡ None) → new ≡ ls)
-      → IfSome (find (is_queue queue) ls) (λ v. (w : QueueLines) × Ran v w × (new ≡ change_first (is_queue queue) (λ _. w) ls)) → (q : List ℕ)
-      → classes_under q new ≡ (if name_eq q queue then f (classes_under q ls) else classes_under q ls)
-  became_named new Ran says none same made q = by (find (is_queue queue) ls) refl made
+  -- where it has no place nothing changes
+  pub nothing_there : f [] ≡ [] → position (is_queue queue) ls ≡ None → (q : List ℕ)
+      → classes_under q ls ≡ (if name_eq q queue then f (classes_under q ls) else classes_under q ls)
+  nothing_there none at q = by (name_eq q queue) refl
     where
-      nothing : find (is_queue queue) ls ≡ None → (b : Bool) → name_eq q queue ≡ b
-          → classes_under q ls ≡ (if b then f (classes_under q ls) else classes_under q ls)
-      nothing e true is =
-          let empty : classes_under q ls ≡ [] = ap (λ q. classes_under q ls) (name_exact q queue is) ∙ ap lines_for e in
+      by : (b : Bool) → name_eq q queue ≡ b → classes_under q ls ≡ (if b then f (classes_under q ls) else classes_under q ls)
+      by true is =
+          let empty : classes_under q ls ≡ []
+          = ap (λ q. classes_under q ls) (name_exact q queue is) ∙ ap lines_for (none_placed (is_queue queue) ls at) in
           empty ∙ sym none ∙ ap f (sym empty)
-      nothing e false is = refl
+      by false is = refl
 
-      by : (o : Option QueueLines) → find (is_queue queue) ls ≡ o
-          → IfSome o (λ v. (w : QueueLines) × Ran v w × (new ≡ change_first (is_queue queue) (λ _. w) ls))
-          → classes_under q new ≡ (if name_eq q queue then f (classes_under q ls) else classes_under q ls)
-      by None e m = ap (classes_under q) (same e) ∙ nothing e (name_eq q queue) refl
-      by (Some v) e (w, ran, is) =
-          let made = says v w ran in
-          ap (classes_under q) (is ∙ change_same (is_queue queue) (with_classes w.classes) w v ls e (λ j. record { name = made.0 j; classes = w.classes }))
-          ∙ became w.classes v e made.1 q
+-- the lines of a queue are those at its place
+pub lines_found : (queue : List ℕ) (ls : List QueueLines) (i : ℕ) (v : QueueLines) → position (is_queue queue) ls ≡ Some i → slice_get ls i ≡ Some v
+    → classes_under queue ls ≡ v.classes.items
+lines_found queue ls i v at there = ap lines_for (found_at (is_queue queue) ls v (ap (slice_get ls) (place_is (is_queue queue) ls i at) ∙ there))
 
 -- a queue that is new and has no lines
 pub classes_added : (x : QueueLines) → x.classes.items ≡ [] → (q : List ℕ) (ls : List QueueLines) → classes_under q (ls ++ x ∷ []) ≡ classes_under q ls

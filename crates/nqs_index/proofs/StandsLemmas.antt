@@ -1,9 +1,16 @@
 -- An index with one seat more, or less.
-use Rattle.std.proofs.Common.{◌≡◌, ℕ, ◌+◌, ◌-◌, ◌<◌, ◌≤◌, ◌^◌, Bool, true, false, ◌&&◌, List, [], ◌∷◌, ◌++◌, length, take, get_or, zero, suc}
+use Rattle.std.proofs.Common.{◌≡◌, ℕ, ◌+◌, ◌-◌, ◌<◌, ◌≤◌, ◌^◌, Bool, true, false, ◌&&◌, List, [], ◌∷◌, ◌++◌, length, find, Some, slice_get, take, get_or, zero, suc}
 use Rattle.std.proofs.Common.{refl, sym, ap, subst, ◌∙◌, arith}
+use Rattle.std.specs.Prelude.{cond}
+use Rattle.std.specs.List.{AllByRecursion}
+use Rattle.std.specs.Cmp.{IsStrictWeakOrder}
 use Rattle.std.proofs.lemmas.List.{take_more}
+use Rattle.std.proofs.lemmas.List.Sorted.{sorted_far}
+use Rattle.std.proofs.lemmas.Option.{none-some, get_or_from_slice_get}
 use Rattle.nqs_types.specs.Ids.{id_eq}
-use Rattle.nqs_types.specs.RowStates.{is_running}
+use Rattle.nqs_types.specs.RowStates.{is_running, is_active}
+use Rattle.nqs_types.specs.declared.request.RowState.{RowState}
+use Rattle.nqs_types.specs.declared.request.RowState.TheVariants.{Queued, Routing, Running}
 use Rattle.nqs_types.specs.declared.ids.RequestId.{RequestId}
 use Rattle.nqs_index.specs.declared.class.Class.{Class}
 use Rattle.nqs_index.specs.declared.classes.ClassLine.{ClassLine}
@@ -11,16 +18,19 @@ use Rattle.nqs_index.specs.declared.index.Index.{Index}
 use Rattle.nqs_index.specs.declared.line.Entry.{Entry}
 use Rattle.nqs_index.specs.declared.seat.Seat.{Seat}
 use Rattle.nqs_index.specs.declared.tally.Tally.{Tally}
-use Rattle.nqs_index.specs.Lines.{is_entry}
-use Rattle.nqs_index.specs.Classes.{class_eq, number_in, AreInOrder, AreFilled, AreApart, entered_in, taken_from}
+use Rattle.nqs_index.specs.Keys.{is_before}
+use Rattle.nqs_index.specs.declared.key.Key.{Key}
+use Rattle.nqs_index.specs.Lines.{is_entry, NoneLater}
+use Rattle.nqs_index.specs.Classes.{class_eq, is_class, number_in, entries_of, line_of, AreInOrder, AreFilled, AreApart, entered_in, taken_from}
 use Rattle.nqs_index.specs.QueueLines.{entered_if, taken_if}
-use Rattle.nqs_index.specs.Indexed.{counted_in, classes_in, running_in, Stands}
+use Rattle.nqs_index.specs.Indexed.{counted_in, classes_in, line_in, running_in, Stands}
 use Rattle.nqs_index.specs.Numbers.{number, IsMore}
-use Rattle.nqs_index.specs.Seats.{entry_of, waits_in, counts_for}
+use Rattle.nqs_index.specs.Seats.{entry_of, waits_in, counts_for, starts_before, StandInOrder}
 use Rattle.nqs_index.specs.Tallies.{one, CanAdd}
 use Rattle.nqs_index.proofs.ClassLemmas.{class_itself, entry_itself, number_entered, order_entered, filled_entered, apart_entered}
 use Rattle.nqs_index.proofs.ClassLemmas.{number_left, order_left_in, filled_left, apart_left}
-use Rattle.nqs_index.proofs.Numbers.{more_behind, number_within}
+use Rattle.nqs_index.proofs.Numbers.{number-cons, more_behind, number_within}
+use Rattle.nqs_index.proofs.OrderLemmas.{chain, once}
 use Rattle.nqs_index.proofs.RunLemmas.{id_itself}
 
 entered_number : (test : Class → Entry → Bool) (c : Class) (x : Entry) (b : Bool) (ls : List ClassLine)
@@ -153,3 +163,72 @@ taken_within [] zero = omega arith
 taken_within [] (suc n) = omega arith
 taken_within (x ∷ xs) zero = omega arith
 taken_within (x ∷ xs) (suc n) = let rest = taken_within xs n in omega (arith, rest)
+
+-- none passes of a list where each fails
+no_number : {A : Type 0} (p : A → Bool) (xs : List A) → ((n : ℕ) (x : A) → slice_get xs n ≡ Some x → p x ≡ false) → number p xs ≡ 0
+no_number p [] none = refl
+no_number p (x ∷ xs) none = number-cons p x xs ∙ (λ j. no_number p xs (λ n y at. none (suc n) y at) j + one (none 0 x refl j))
+
+-- nor of a class's line, where none of all lines passes
+no_number_of : (test : Entry → Bool) (c : Class) (ls : List ClassLine) → number_in (λ _ e. test e) ls ≡ 0 → number test (line_of c ls) ≡ 0
+no_number_of test c [] none = refl
+no_number_of test c (l ∷ ls) none = by (is_class c l) (no_number_of test c ls (omega (arith, both)))
+  where
+    both : number test l.line + number_in (λ _ e. test e) ls ≡ 0
+    both = none
+
+    by : (b : Bool) → number test (line_of c ls) ≡ 0 → number test (entries_of (cond b (Some l) (find (is_class c) ls))) ≡ 0
+    by true rest = omega (arith, both)
+    by false rest = rest
+
+none_pass : (test : Entry → Bool) (es : List Entry) → number test es ≡ 0 → AllByRecursion (λ e. test e ≡ false) es
+none_pass test [] none = tt
+none_pass test (x ∷ es) none = by (test x) refl (number-cons test x es) (none_pass test es)
+  where
+    by : (b : Bool) → test x ≡ b → number test (x ∷ es) ≡ number test es + one b → (number test es ≡ 0 → AllByRecursion (λ e. test e ≡ false) es)
+        → AllByRecursion (λ e. test e ≡ false) (x ∷ es)
+    by true is all rest = absurd (let no : ⊥ = omega (arith, none, all) in no)
+    by false is all rest = (is, rest (omega (arith, none, all)))
+
+and_false : (a b : Bool) → b ≡ false → (a && b) ≡ false
+and_false true b h = h
+and_false false b h = refl
+
+-- where none of the seats starts after a key, no entry of a line does
+pub none_later_in : (i : Index) (ts : List Seat) (k : Key) → Stands i ts → ((n : ℕ) (t : Seat) → slice_get ts n ≡ Some t → is_before k t.key ≡ false)
+    → (q : List ℕ) (c : Class) → NoneLater k (line_in q c i)
+none_later_in i ts k stands none q c =
+    none_pass (λ e. is_before k e.key) (line_in q c i)
+    (no_number_of (λ e. is_before k e.key) c (classes_in q i)
+    (stands.lines q (λ _ e. is_before k e.key)
+    ∙ no_number (λ t. waits_in q t && is_before k t.key) ts (λ n t at. and_false (waits_in q t) (is_before k t.key) (none n t at))))
+
+-- what stands at a place of the first of a list
+taken_get : (xs : List Seat) (n j : ℕ) (u : Seat) → slice_get (take n xs) j ≡ Some u → (j < n) × (slice_get xs j ≡ Some u)
+taken_get [] zero j u at = absurd (none-some u at)
+taken_get [] (suc n) j u at = absurd (none-some u at)
+taken_get (x ∷ xs) zero j u at = absurd (none-some u at)
+taken_get (x ∷ xs) (suc n) zero u at = (omega arith, at)
+taken_get (x ∷ xs) (suc n) (suc j) u at =
+    let rest = taken_get xs n j u at in
+    let less = rest.0 in
+    (omega (arith, less), rest.1)
+
+-- the order of seats is one
+pub seats_rank : IsStrictWeakOrder starts_before
+seats_rank = record { one_way = λ t u. once t.key u.key; chain = λ t u v. chain t.key u.key v.key }
+
+-- of seats in order none starts before one in front of it
+pub none_in_front_of : (xs : List Seat) (n : ℕ) (t : Seat) → StandInOrder xs → n < length xs → t ≡ get_or xs n t → (j : ℕ) (u : Seat)
+    → slice_get (take n xs) j ≡ Some u → is_before t.key u.key ≡ false
+none_in_front_of xs n t order within is j u at =
+    let there = taken_get xs n j u at in
+    let less = there.0 in
+    let e : get_or xs j t ≡ u = get_or_from_slice_get xs j u t there.1 in
+    (λ i. starts_before (is i) (sym e i)) ∙ sorted_far starts_before seats_rank xs order j n t (omega (arith, less)) within
+
+-- what isn't active doesn't run
+pub not_running : (s : RowState) → is_active s ≡ false → is_running s ≡ false
+not_running Queued idle = refl
+not_running Routing idle = refl
+not_running Running idle = idle

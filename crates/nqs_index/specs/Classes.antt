@@ -125,3 +125,20 @@ is_left_empty c ls = is_empty_line (find (is_class c) ls)
 -- the lines become those with an entry more
 abbrev pub IsEntered : Class → Entry → List ClassLine → List ClassLine → Type 0
 IsEntered c x old new = new ≡ entered_in c x old
+
+-- the entries of a line, if there is one
+abbrev pub entries_of : Option ClassLine → List Entry
+entries_of None = []
+entries_of (Some l) = l.line
+
+-- the entries of a class's line; none where it has no line
+abbrev pub line_of : Class → List ClassLine → List Entry
+line_of c ls = entries_of (find (is_class c) ls)
+
+-- the line at a place loses the entry, and no other one changes
+abbrev pub TakesAt : ℕ → Entry → List ClassLine → List ClassLine → Type 0
+TakesAt place x old new = (l : ClassLine) → slice_get old place ≡ Some l → new ≡ slice_set old place (with_taken x l)
+
+-- the lines become those with an entry less
+abbrev pub IsTaken : Class → Entry → List ClassLine → List ClassLine → Type 0
+IsTaken c x old new = new ≡ taken_from c x old

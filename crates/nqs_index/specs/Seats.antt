@@ -1,5 +1,6 @@
 -- What an index sees of a row.
 use Rattle.std.specs.Prelude.{ℕ, ◌+◌, Bool, false, ◌&&◌, List, Option, None, Some}
+use Rattle.std.specs.List.Sorted.{IsSortedBy}
 use Rattle.nqs_base.specs.Same.{name_eq}
 use Rattle.nqs_types.specs.declared.request.Row.{Row}
 use Rattle.nqs_types.specs.RowStates.{is_running, is_active, is_ready}
@@ -8,13 +9,21 @@ use Rattle.nqs_index.specs.declared.seat.Seat.{Seat}
 use Rattle.nqs_index.specs.declared.tally.Tally.{Tally}
 use Rattle.nqs_index.specs.declared.tally.Tally.TheVariants.{Active, Running, Owned, Printing}
 use Rattle.nqs_index.specs.Classes.{class_of}
-use Rattle.nqs_index.specs.Keys.{key_of}
+use Rattle.nqs_index.specs.Keys.{key_of, is_before}
 use Rattle.nqs_index.specs.Lines.{entry_at}
 use Rattle.nqs_index.specs.Tallies.{tally_eq, one}
 
 -- the entry of a seat
 abbrev pub entry_of : Seat → Entry
 entry_of t = entry_at t.key t.id
+
+-- the row of one seat starts before that of the other
+abbrev pub starts_before : Seat → Seat → Bool
+starts_before t u = is_before t.key u.key
+
+-- no seat's row starts before that of an earlier one
+abbrev pub StandInOrder : List Seat → Type 0
+StandInOrder = IsSortedBy starts_before
 
 -- the seat waits in the line of the queue: a held one doesn't
 abbrev pub waits_in : List ℕ → Seat → Bool

@@ -45,7 +45,8 @@ impl Class {
 
     /// Whether it is this class.
     pub(crate) fn is(&self, other: &Class) -> bool
-        ensures { result ≡ true → self.now ≡ other.now }
+        ensures is { result ≡ true → self.now ≡ other.now }
+        ensures same { self.now ≡ other.now → result ≡ true }
     {
         *self == *other
     }

@@ -1,9 +1,10 @@
 //! The lines of a queue, one for each class of its waiting requests.
 
-ghost use Rattle.std.specs.Prelude.{◌≡◌, ◌≤◌, ◌<◌, ◌+◌, ◌-◌, ◌*◌, ◌^◌, [], ◌∷◌, ◌++◌, length, position, slice_get, true, false, Some, OnOk, OnErr};
+ghost use Rattle.std.specs.Prelude.{◌≡◌, ◌≤◌, ◌<◌, ◌-◌, [], ◌∷◌, ◌++◌, length, position, slice_get, true, false, Some, OnOk, OnErr};
 ghost use Rattle.std.specs.List.{list_any};
-ghost use Rattle.nqs_index.specs.Lines.{entry_at};
-ghost use Rattle.nqs_index.specs.Classes.{is_class, new_line, with_taken, with_class, entered_in, taken_from, is_left_empty, PutsAt};
+ghost use Rattle.nqs_base_tables.specs.Table.{change_first};
+ghost use Rattle.nqs_index.specs.Lines.{entry_at, PutsBy, TakesBy};
+ghost use Rattle.nqs_index.specs.Classes.{is_class, new_line, with_taken, with_class, entered_in, taken_from, is_left_empty, line_of, PutsAt, TakesAt};
 
 use crate::class::Class;
 use crate::key::Key;
@@ -12,8 +13,7 @@ use crate::steps::Steps;
 use nqs_base::{Keyed, Memory};
 use nqs_base_tables::Table;
 use nqs_types::RequestId;
-use std::marker::Brand;
-use std::sync::ledger::{Blank, Ledger};
+use std::sync::ledger::Ledger;
 
 /// The waiting requests of a class, in the order in which they start.
 pub struct ClassLine {
@@ -38,9 +38,8 @@ impl Keyed<Class> for ClassLine {
 /// The lines of a queue, each found by its class.
 pub type Classes = Table<Class, ClassLine>;
 
-/// Puts an entry into the line at a place, with the bound on comparisons that `Line::insert` has.
-/// An `Err` changes no line.
-pub(crate) fn put_at<L: Ledger>(
+// Puts an entry into the line at a place. An `Err` changes no line.
+fn put_at<L: Ledger>(
     classes: &mut Classes,
     place: usize,
     key: Key,
@@ -51,41 +50,16 @@ pub(crate) fn put_at<L: Ledger>(
     ensures ok { OnOk result (PutsAt place (entry_at key id) classes.old.items classes.new.items) }
     ensures err { OnErr result (classes.new.items ≡ classes.old.items) }
     ensures rises { steps.old ≤ steps.new }
-    ensures cost { (l : _) → slice_get classes.old.items place ≡ Some l → 2 ^ (steps.new - steps.old) ≤ 2 * length l.line + 1 }
+    ensures cost { (l : _) → slice_get classes.old.items place ≡ Some l → PutsBy key l.line (steps.new - steps.old) }
 {
     let mut line = ClassLine {
         class: classes.at(place).class,
         line: Line::new(classes.allocator()),
     };
     classes.exchange(place, &mut line);
-    let put = line.line.insert(key, id, steps);
+    let put = line.line.put(key, id, steps);
     classes.exchange(place, &mut line);
     put
-}
-
-fn counted_put<L: Ledger>(
-    classes: &mut Classes,
-    place: usize,
-    key: Key,
-    id: RequestId,
-    blank: Blank,
-) -> Result<(), Memory>
-    requires within { place < length classes.old.items }
-    requires name { blank.name ≡ L.name }
-    requires parts { blank.parts ≡ L.parts }
-    requires some { 0 < L.parts }
-    ensures { OnOk result (PutsAt place (entry_at key id) classes.old.items classes.new.items) }
-{
-    let mut steps = Steps::<L>::new(blank);
-    put_at(classes, place, key, id, &mut steps)
-}
-
-// Puts an entry into the line at a place.
-fn put_here(classes: &mut Classes, place: usize, key: Key, id: RequestId) -> Result<(), Memory>
-    requires { place < length classes.old.items }
-    ensures { OnOk result (PutsAt place (entry_at key id) classes.old.items classes.new.items) }
-{
-    counted_put::<Brand>(classes, place, key, id, Blank::new(1))
 }
 
 // The place of the line of a class that has one.
@@ -126,33 +100,60 @@ fn ensure(classes: &mut Classes, class: &Class) -> Result<(), Memory>
 }
 
 /// Puts an entry into the line of a class, which is made where there is none.
-pub(crate) fn put(
+pub(crate) fn put<L: Ledger>(
     classes: &mut Classes,
     class: &Class,
     key: Key,
     id: RequestId,
+    steps: &mut Steps<L>,
 ) -> Result<(), Memory>
-    ensures { OnOk result (classes.new.items ≡ entered_in class.now (entry_at key id) classes.old.items) }
+    ensures ok { OnOk result (classes.new.items ≡ entered_in class.now (entry_at key id) classes.old.items) }
+    ensures rises { steps.old ≤ steps.new }
+    ensures cost { PutsBy key (line_of class.now classes.old.items) (steps.new - steps.old) }
 {
     ensure(classes, class)?;
     let place = place_in(classes, class);
-    put_here(classes, place, key, id)
+    put_at(classes, place, key, id, steps)
 }
 
-fn counted_take<L: Ledger>(line: &mut ClassLine, key: Key, id: RequestId, blank: Blank)
-    requires name { blank.name ≡ L.name }
-    requires parts { blank.parts ≡ L.parts }
-    requires some { 0 < L.parts }
-    ensures { line.new ≡ with_taken (entry_at key id) line.old }
+// Takes an entry out of the line at a place, if it is there.
+fn take_at<L: Ledger>(
+    classes: &mut Classes,
+    place: usize,
+    key: Key,
+    id: RequestId,
+    steps: &mut Steps<L>,
+)
+    requires { place < length classes.old.items }
+    ensures taken { TakesAt place (entry_at key id) classes.old.items classes.new.items }
+    ensures rises { steps.old ≤ steps.new }
+    ensures cost { (l : _) → slice_get classes.old.items place ≡ Some l → TakesBy key l.line (steps.new - steps.old) }
 {
-    let mut steps = Steps::<L>::new(blank);
-    line.line.take(key, id, &mut steps);
+    let mut line = ClassLine {
+        class: classes.at(place).class,
+        line: Line::new(classes.allocator()),
+    };
+    classes.exchange(place, &mut line);
+    line.line.take(key, id, steps);
+    classes.exchange(place, &mut line);
 }
 
-fn take_one(line: &mut ClassLine, key: Key, id: RequestId)
-    ensures { line.new ≡ with_taken (entry_at key id) line.old }
+// Takes an entry out of the line of a class, if it is there. The line stays.
+fn take_in<L: Ledger>(
+    classes: &mut Classes,
+    class: &Class,
+    key: Key,
+    id: RequestId,
+    steps: &mut Steps<L>,
+)
+    ensures items { classes.new.items ≡ change_first (is_class class.now) (with_taken (entry_at key id)) classes.old.items }
+    ensures rises { steps.old ≤ steps.new }
+    ensures cost { TakesBy key (line_of class.now classes.old.items) (steps.new - steps.old) }
 {
-    counted_take::<Brand>(line, key, id, Blank::new(1));
+    match classes.place(class) {
+        Some(place) => take_at(classes, place, key, id, steps),
+        None => {}
+    }
 }
 
 // Whether a class has a line without an entry.
@@ -166,10 +167,18 @@ fn is_left_empty(classes: &Classes, class: &Class) -> bool
 }
 
 /// Takes an entry out of the line of a class, if it is there. A line that gets empty goes.
-pub(crate) fn take(classes: &mut Classes, class: &Class, key: Key, id: RequestId)
-    ensures { classes.new.items ≡ taken_from class.now (entry_at key id) classes.old.items }
+pub(crate) fn take<L: Ledger>(
+    classes: &mut Classes,
+    class: &Class,
+    key: Key,
+    id: RequestId,
+    steps: &mut Steps<L>,
+)
+    ensures items { classes.new.items ≡ taken_from class.now (entry_at key id) classes.old.items }
+    ensures rises { steps.old ≤ steps.new }
+    ensures cost { TakesBy key (line_of class.now classes.old.items) (steps.new - steps.old) }
 {
-    classes.change(class, |line: &mut ClassLine| take_one(line, key, id));
+    take_in(classes, class, key, id, steps);
     if is_left_empty(classes, class) {
         classes.remove_key(class);
     }

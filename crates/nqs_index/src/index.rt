@@ -3,14 +3,16 @@
 //! limit needs a look at all of them, and which requests run. `specs/Indexed.antt` says what it is
 //! that stands for rows. It is kept row by row: one enters, one leaves.
 
-ghost use Rattle.std.specs.Prelude.{◌≡◌, ◌<◌, ◌+◌, ◌-◌, ◌^◌, ℕ, List, [], length, true, OnOk, IfOk, IfSome, IfNone, Bool, ◌&&◌};
+ghost use Rattle.std.specs.Prelude.{◌≡◌, ◌<◌, ◌≤◌, ◌+◌, ◌-◌, ◌*◌, ◌^◌, ℕ, List, [], length, true, false, IsOk, OnOk, IfOk, IfSome, IfNone, Bool, ◌&&◌};
 ghost use Rattle.nqs_types.specs.Ids.{id_eq};
-ghost use Rattle.nqs_types.specs.RowStates.{is_running};
+ghost use Rattle.nqs_types.specs.RowStates.{is_running, is_active};
 ghost use Rattle.nqs_index.specs.declared.seat.Seat.{Seat as SeatValue};
-ghost use Rattle.nqs_index.specs.Indexed.{counted_in, classes_in, is_crowded, running_in, number, IsMore, Stands, StandsForIndex};
+ghost use Rattle.nqs_index.specs.Indexed.{counted_in, classes_in, line_in, is_crowded, running_in, number, IsMore, MayHave, Stands, StandsForIndex};
+ghost use Rattle.nqs_index.specs.Classes.{line_of};
+ghost use Rattle.nqs_index.specs.Lines.{PutsBy, TakesBy};
 ghost use Rattle.nqs_index.specs.QueueLines.{classes_under, entered_if, taken_if};
 ghost use Rattle.nqs_index.specs.Runs.{ids_of, IsLeast};
-ghost use Rattle.nqs_index.specs.Seats.{counts_for, entry_of, waits_in, is_of_device, ones_of_active, ones_of_running};
+ghost use Rattle.nqs_index.specs.Seats.{counts_for, entry_of, waits_in, is_of_device, ones_of_active, ones_of_running, StandInOrder};
 ghost use Rattle.nqs_index.specs.Tallies.{count_of, one, CanAdd, Adds};
 
 use crate::classes::Classes;
@@ -18,11 +20,13 @@ use crate::lines::{Lines, put, take};
 use crate::nobody::Nobody;
 use crate::runs::{Runs, end, least, start};
 use crate::seat::{Seat, seats_of, sort};
+use crate::steps::Steps;
 use crate::tally::{Counters, Tally, count, lower, raise};
 use nqs_base::{Memory, Name};
 use nqs_base_tables::Table;
 use nqs_types::{RequestId, Row, RowState};
 use std::alloc::Global;
+use std::sync::ledger::Ledger;
 
 /// What is kept of a host's rows.
 pub struct Index {
@@ -86,8 +90,9 @@ fn count_both(counters: &mut Counters, seat: &Seat) -> Result<(), Memory>
 
 // A row is counted under each of its tallies.
 fn count_in(counters: &mut Counters, seat: &Seat) -> Result<(), Memory>
-    ensures { CanAdd (λ k. one (counts_for k seat.now)) counters.old.items
+    ensures adds { CanAdd (λ k. one (counts_for k seat.now)) counters.old.items
         → OnOk result (Adds (λ k. one (counts_for k seat.now)) counters.old.items counters.new.items) }
+    ensures none { is_active seat.now.state ≡ false → IsOk result }
 {
     match seat.state {
         RowState::Queued => Ok(()),
@@ -122,30 +127,36 @@ fn count_out(counters: &mut Counters, seat: &Seat)
 }
 
 // A row that waits without a hold comes into the line of its queue and class.
-fn line_up(lines: &mut Lines, seat: &Seat) -> Result<(), Memory>
-    ensures { OnOk result ((q : List ℕ) → classes_under q lines.new.items
+fn line_up<L: Ledger>(lines: &mut Lines, seat: &Seat, steps: &mut Steps<L>) -> Result<(), Memory>
+    ensures ok { OnOk result ((q : List ℕ) → classes_under q lines.new.items
         ≡ entered_if (waits_in q seat.now) seat.now.class (entry_of seat.now) (classes_under q lines.old.items)) }
+    ensures none { seat.now.ready ≡ false → IsOk result }
+    ensures rises { steps.old ≤ steps.new }
+    ensures cost { PutsBy seat.now.key (line_of seat.now.class (classes_under seat.now.queue lines.old.items)) (steps.new - steps.old) }
 {
     if !seat.ready {
         return Ok(());
     }
-    put(lines, &seat.queue, &seat.class, seat.key, seat.id)
+    put(lines, &seat.queue, &seat.class, seat.key, seat.id, steps)
 }
 
-fn step_out(lines: &mut Lines, seat: &Seat)
-    ensures { (q : List ℕ) → classes_under q lines.new.items ≡ taken_if (waits_in q seat.now) seat.now.class (entry_of seat.now)
+fn step_out<L: Ledger>(lines: &mut Lines, seat: &Seat, steps: &mut Steps<L>)
+    ensures classes { (q : List ℕ) → classes_under q lines.new.items ≡ taken_if (waits_in q seat.now) seat.now.class (entry_of seat.now)
         (classes_under q lines.old.items) }
+    ensures rises { steps.old ≤ steps.new }
+    ensures cost { TakesBy seat.now.key (line_of seat.now.class (classes_under seat.now.queue lines.old.items)) (steps.new - steps.old) }
 {
     if !seat.ready {
         return;
     }
-    take(lines, &seat.queue, &seat.class, seat.key, seat.id);
+    take(lines, &seat.queue, &seat.class, seat.key, seat.id, steps);
 }
 
 // A row that runs is among those that do.
 fn start_run(runs: &mut Runs, seat: &Seat) -> Result<(), Memory>
-    ensures { (is_running seat.now.state ≡ true → number (id_eq seat.now.id) (ids_of runs.old.items) + 1 < 2 ^ 64) → OnOk result ((test : RequestId → Bool)
+    ensures runs { (is_running seat.now.state ≡ true → number (id_eq seat.now.id) (ids_of runs.old.items) + 1 < 2 ^ 64) → OnOk result ((test : RequestId → Bool)
         → number test (ids_of runs.new.items) ≡ number test (ids_of runs.old.items) + one (is_running seat.now.state && test seat.now.id)) }
+    ensures none { is_running seat.now.state ≡ false → IsOk result }
 {
     if seat.state == RowState::Running {
         return start(runs, &seat.id);
@@ -166,10 +177,18 @@ fn end_run(runs: &mut Runs, seat: &Seat)
 // So many queues and so many counters an index may have, however few rows there are.
 const FEW: usize = 1_024;
 
+// So many an index of so many rows may have.
+fn most_of(rows: usize) -> usize
+    ensures { 8 * rows + 1024 < 2 ^ 64 → result ≡ 8 * rows + 1024 }
+{
+    rows.saturating_mul(8).saturating_add(FEW)
+}
+
 impl Index {
     /// An index of no rows.
     pub fn empty(alloc: Global) -> Index
-        ensures { Stands result [] }
+        ensures stands { Stands result [] }
+        ensures most { MayHave 0 result }
     {
         Index::roomy(alloc, FEW)
     }
@@ -189,48 +208,68 @@ impl Index {
     }
 
     /// A row comes in. A class goes with the last of its waiting requests; a queue and a counter
-    /// stay, until the index is made anew (`is_crowded`). After an `Err` it is of no use.
-    pub fn enter(&mut self, seat: &Seat) -> Result<(), Memory>
+    /// stay, until the index is made anew (`is_crowded`). An `Err` is the want of memory and comes
+    /// by nothing else; after it the index is of no use. The last entry of the row's class is asked
+    /// first, so a row that starts behind all of its class takes one comparison.
+    pub fn enter<L: Ledger>(&mut self, seat: &Seat, steps: &mut Steps<L>) -> Result<(), Memory>
         ensures stands { (ts us : List SeatValue) → Stands self.old ts → IsMore seat.now ts us → length us < 2 ^ 64
             → OnOk result (Stands self.new us) }
+        ensures none { seat.now.ready ≡ false → is_active seat.now.state ≡ false → IsOk result }
         ensures most { self.new.most ≡ self.old.most }
+        ensures rises { steps.old ≤ steps.new }
+        ensures cost { PutsBy seat.now.key (line_in seat.now.queue seat.now.class self.old) (steps.new - steps.old) }
     {
-        line_up(&mut self.lines, seat)?;
+        line_up(&mut self.lines, seat, steps)?;
         start_run(&mut self.runs, seat)?;
         count_in(&mut self.counters, seat)
     }
 
-    /// A row that is in goes.
-    pub fn leave(&mut self, seat: &Seat)
-        ensures { (ts us : List SeatValue) → Stands self.old us → IsMore seat.now ts us → Stands self.new ts }
+    /// A row that is in goes. Its entry is found by halving the line of its class.
+    pub fn leave<L: Ledger>(&mut self, seat: &Seat, steps: &mut Steps<L>)
+        ensures stands { (ts us : List SeatValue) → Stands self.old us → IsMore seat.now ts us → Stands self.new ts }
+        ensures most { self.new.most ≡ self.old.most }
+        ensures rises { steps.old ≤ steps.new }
+        ensures cost { TakesBy seat.now.key (line_in seat.now.queue seat.now.class self.old) (steps.new - steps.old) }
     {
-        step_out(&mut self.lines, seat);
+        step_out(&mut self.lines, seat, steps);
         end_run(&mut self.runs, seat);
         count_out(&mut self.counters, seat);
     }
 
-    // The index of seats.
-    fn of(alloc: Global, seats: &[Seat]) -> Result<Index, Memory>
-        ensures { IfOk result (λ i. Stands i seats.now) }
+    // The index of seats, of which none starts before an earlier one.
+    fn of<L: Ledger>(alloc: Global, seats: &[Seat], steps: &mut Steps<L>) -> Result<Index, Memory>
+        requires { StandInOrder seats.now }
+        ensures stands { IfOk result (λ i. Stands i seats.now) }
+        ensures most { IfOk result (λ i. MayHave (length seats.now) i) }
+        ensures rises { steps.old ≤ steps.new }
+        ensures cost { steps.new ≤ steps.old + length seats.now }
     {
-        let most = seats.len().saturating_mul(8).saturating_add(FEW);
+        let most = most_of(seats.len());
         let mut index = Index::roomy(alloc, most);
         let mut place = 0;
         while place < seats.len() {
-            index.enter(&seats[place])?;
+            index.enter(&seats[place], steps)?;
             place += 1;
         }
         Ok(index)
     }
 
-    /// The index of rows. They come in in the order in which they start, so that each is the last
-    /// of its line.
-    pub fn build(alloc: Global, rows: &Table<RequestId, Row>) -> Result<Index, Memory>
-        ensures { IfOk result (λ i. StandsForIndex i rows.now.items) }
+    /// The index of rows. They are sorted, whose comparisons no contract bounds, and come in in the
+    /// order in which they start. So each is the last of its line, and takes one comparison at
+    /// most.
+    pub fn build<L: Ledger>(
+        alloc: Global,
+        rows: &Table<RequestId, Row>,
+        steps: &mut Steps<L>,
+    ) -> Result<Index, Memory>
+        ensures stands { IfOk result (λ i. StandsForIndex i rows.now.items) }
+        ensures most { IfOk result (λ i. MayHave (length rows.now.items) i) }
+        ensures rises { steps.old ≤ steps.new }
+        ensures cost { steps.new ≤ steps.old + length rows.now.items }
     {
         let mut seats = seats_of(alloc, rows)?;
         sort(&mut seats);
-        Index::of(alloc, &seats)
+        Index::of(alloc, &seats, steps)
     }
 
     /// Whether it has more queues or counters than the rows of its making can have had, by as many

@@ -40,7 +40,8 @@ impl Key {
 
     /// Whether it is this key.
     pub(crate) fn is(&self, other: &Key) -> bool
-        ensures { result ≡ true → self.now ≡ other.now }
+        ensures is { result ≡ true → self.now ≡ other.now }
+        ensures same { self.now ≡ other.now → result ≡ true }
     {
         self.priority == other.priority && self.arrival == other.arrival
     }

@@ -1,18 +1,20 @@
 //! The lines of a host's queues, those of a queue found by its name.
 
-ghost use Rattle.std.specs.Prelude.{◌≡◌, ◌<◌, ℕ, List, length, position, true, false, Some, OnOk};
+ghost use Rattle.std.specs.Prelude.{◌≡◌, ◌<◌, ◌≤◌, ◌-◌, ℕ, List, length, position, slice_get, true, false, Some, OnOk};
 ghost use Rattle.std.specs.List.{list_any};
 ghost use Rattle.nqs_base.specs.Same.{name_eq};
-ghost use Rattle.nqs_index.specs.Lines.{entry_at};
-ghost use Rattle.nqs_index.specs.Classes.{taken_from, IsEntered};
+ghost use Rattle.nqs_index.specs.Lines.{entry_at, PutsBy, TakesBy};
+ghost use Rattle.nqs_index.specs.Classes.{line_of, IsEntered, IsTaken};
 ghost use Rattle.nqs_index.specs.QueueLines.{is_queue, classes_under, entered_if, taken_if, BecomesAt};
 
 use crate::class::Class;
 use crate::classes::{self, Classes};
 use crate::key::Key;
+use crate::steps::Steps;
 use nqs_base::{Keyed, Memory, Name};
 use nqs_base_tables::Table;
 use nqs_types::RequestId;
+use std::sync::ledger::Ledger;
 
 /// The lines of a queue: one for each class of which a request waits.
 pub struct QueueLines {
@@ -41,22 +43,25 @@ impl Keyed<Name> for QueueLines {
 pub type Lines = Table<Name, QueueLines>;
 
 // Puts an entry into the line of a class of the queue at a place.
-fn put_here(
+fn put_here<L: Ledger>(
     lines: &mut Lines,
     place: usize,
     class: &Class,
     key: Key,
     id: RequestId,
+    steps: &mut Steps<L>,
 ) -> Result<(), Memory>
     requires { place < length lines.old.items }
-    ensures { OnOk result (BecomesAt place (IsEntered class.now (entry_at key id)) lines.old.items lines.new.items) }
+    ensures ok { OnOk result (BecomesAt place (IsEntered class.now (entry_at key id)) lines.old.items lines.new.items) }
+    ensures rises { steps.old ≤ steps.new }
+    ensures cost { (q : _) → slice_get lines.old.items place ≡ Some q → PutsBy key (line_of class.now q.classes.items) (steps.new - steps.old) }
 {
     let mut lent = QueueLines {
         name: lines.at(place).name,
         classes: Table::new(lines.allocator()),
     };
     lines.exchange(place, &mut lent);
-    let put = classes::put(&mut lent.classes, class, key, id);
+    let put = classes::put(&mut lent.classes, class, key, id, steps);
     lines.exchange(place, &mut lent);
     put
 }
@@ -100,35 +105,63 @@ fn ensure(lines: &mut Lines, queue: &Name) -> Result<(), Memory>
 }
 
 /// Puts an entry into the line of a class of a queue.
-pub(crate) fn put(
+pub(crate) fn put<L: Ledger>(
     lines: &mut Lines,
     queue: &Name,
     class: &Class,
     key: Key,
     id: RequestId,
+    steps: &mut Steps<L>,
 ) -> Result<(), Memory>
-    ensures { OnOk result ((q : List ℕ) → classes_under q lines.new.items
+    ensures ok { OnOk result ((q : List ℕ) → classes_under q lines.new.items
         ≡ entered_if (name_eq q queue.now) class.now (entry_at key id) (classes_under q lines.old.items)) }
+    ensures rises { steps.old ≤ steps.new }
+    ensures cost { PutsBy key (line_of class.now (classes_under queue.now lines.old.items)) (steps.new - steps.old) }
 {
     ensure(lines, queue)?;
     let place = place_in(lines, queue);
-    put_here(lines, place, class, key, id)
+    put_here(lines, place, class, key, id, steps)
 }
 
-fn take_here(queue: &mut QueueLines, class: &Class, key: Key, id: RequestId)
-    ensures name { queue.new.name ≡ queue.old.name }
-    ensures classes { queue.new.classes.items ≡ taken_from class.now (entry_at key id) queue.old.classes.items }
+// Takes an entry out of the line of a class of the queue at a place, if it is there.
+fn take_here<L: Ledger>(
+    lines: &mut Lines,
+    place: usize,
+    class: &Class,
+    key: Key,
+    id: RequestId,
+    steps: &mut Steps<L>,
+)
+    requires { place < length lines.old.items }
+    ensures classes { BecomesAt place (IsTaken class.now (entry_at key id)) lines.old.items lines.new.items }
+    ensures rises { steps.old ≤ steps.new }
+    ensures cost { (q : _) → slice_get lines.old.items place ≡ Some q → TakesBy key (line_of class.now q.classes.items) (steps.new - steps.old) }
 {
-    classes::take(&mut queue.classes, class, key, id);
+    let mut lent = QueueLines {
+        name: lines.at(place).name,
+        classes: Table::new(lines.allocator()),
+    };
+    lines.exchange(place, &mut lent);
+    classes::take(&mut lent.classes, class, key, id, steps);
+    lines.exchange(place, &mut lent);
 }
 
 /// Takes an entry out of the line of a class of a queue, if it is there.
-pub(crate) fn take(lines: &mut Lines, queue: &Name, class: &Class, key: Key, id: RequestId)
-    ensures { (q : List ℕ) → classes_under q lines.new.items
+pub(crate) fn take<L: Ledger>(
+    lines: &mut Lines,
+    queue: &Name,
+    class: &Class,
+    key: Key,
+    id: RequestId,
+    steps: &mut Steps<L>,
+)
+    ensures classes { (q : List ℕ) → classes_under q lines.new.items
         ≡ taken_if (name_eq q queue.now) class.now (entry_at key id) (classes_under q lines.old.items) }
+    ensures rises { steps.old ≤ steps.new }
+    ensures cost { TakesBy key (line_of class.now (classes_under queue.now lines.old.items)) (steps.new - steps.old) }
 {
-    lines.change(
-        queue,
-        |lines: &mut QueueLines| take_here(lines, class, key, id),
-    );
+    match lines.place(queue) {
+        Some(place) => take_here(lines, place, class, key, id, steps),
+        None => {}
+    }
 }

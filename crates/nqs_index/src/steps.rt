@@ -5,7 +5,8 @@ ghost use Rattle.std.specs.Prelude.{◌≡◌, ◌+◌, ◌<◌};
 use std::marker::Model;
 use std::sync::ledger::{Blank, Book, Ledger, Share};
 
-/// How many steps were taken. It takes no bytes when the program runs, and only `tick` changes it.
+/// How many steps were taken. It takes no bytes when the program runs, and only `add` and `tick`
+/// change it.
 #[derive(Drop)]
 pub struct Steps<L: Ledger> {
     book: Book<L>,
@@ -32,6 +33,13 @@ impl<L: Ledger> Steps<L> {
     {
         let (book, share) = blank.open::<L>();
         Steps { book, share }
+    }
+
+    /// Adds so many steps, where a call that isn't told of the count may take as many.
+    pub fn add(&mut self, count: usize)
+        ensures { self.new ≡ self.old + count }
+    {
+        self.book.add(&mut self.share, count as u64);
     }
 
     /// Adds one step.

@@ -9,7 +9,7 @@ ghost use Rattle.nqs_language_acts.specs.Acts.{of_line, of_words, listed, qsub_c
 
 use nqs_base::{Bytes, Memory, Name};
 use nqs_qmgr::read_qmgr;
-use nqs_qsub::read_qsub;
+use nqs_qsub::{read_qsub, read_qsub_of};
 use nqs_query::{read_qdel, read_qstat};
 use nqs_types::{Command, Job, Limits, Submission};
 use std::alloc::Global;
@@ -24,6 +24,21 @@ pub fn qsub_command(
     ensures { IfOk result (λ command. command ≡ qsub_asks user.now words.now script.now) }
 {
     match read_qsub(alloc, user, words, script)? {
+        Ok(submission) => Ok(Command::Submit(submission)),
+        Err(fault) => Ok(Command::UnreadWords(fault)),
+    }
+}
+
+/// The same of a script that a submission keeps.
+pub fn qsub_command_of(
+    alloc: Global,
+    user: &Name,
+    words: &[Bytes],
+    script: Bytes,
+) -> Result<Command, Memory>
+    ensures { IfOk result (λ command. command ≡ qsub_asks user.now words.now script) }
+{
+    match read_qsub_of(alloc, user, words, script)? {
         Ok(submission) => Ok(Command::Submit(submission)),
         Err(fault) => Ok(Command::UnreadWords(fault)),
     }

@@ -8,4 +8,6 @@
 mod commands;
 pub mod laws;
 
-pub use commands::{qdel_command, qmgr_command, qstat_command, qsub_command, submit_command};
+pub use commands::{
+    qdel_command, qmgr_command, qstat_command, qsub_command, qsub_command_of, submit_command,
+};

@@ -1,5 +1,6 @@
 -- The table that the hosts tell, after each change.
-use Rattle.std.proofs.Common.{◌≡◌, ℕ, ◌+◌, ◌<◌, ◌≤◌, ◌⊎◌, inl, inr, Bool, true, false, ◌&&◌, ◌==◌, nat_le, nat_lt, List, [], ◌∷◌, ◌++◌, find, slice_get, Option, None, Some}
+use Rattle.std.proofs.Common.{◌≡◌, ℕ, ◌+◌, ◌<◌, ◌≤◌, ◌⊎◌, inl, inr, Bool, true, false, ◌&&◌, ◌==◌, nat_le, nat_lt, List, [], ◌∷◌, ◌++◌, find, slice_get, Option}
+use Rattle.std.proofs.Common.{None, Some}
 use Rattle.std.proofs.Common.{true≢false, refl, sym, ap, subst, ◌∙◌, arith, if◌then◌else◌}
 use Rattle.std.proofs.lemmas.Bool.{and_parts, leb-true}
 use Rattle.std.proofs.lemmas.Option.{same_Some}
@@ -265,7 +266,8 @@ module _ (states : List Plain) (packets : List Message) (paired : IsPaired state
           (let n : x.seq ≡ s.seq + 1 = ap (λ (i : Request). i.seq) k in omega (arith, n))))
 
   -- a change in a host
-  pub host_tabled : (c : Change (List ℕ)) → fits c s ≡ true → IsLowRight c → IsOne c → IsInHost c → IsInOrder (applied c s) → (applied c s).me ≡ s.me → GuardsOf states h s c
+  pub host_tabled : (c : Change (List ℕ)) → fits c s ≡ true → IsLowRight c → IsOne c → IsInHost c → IsInOrder (applied c s) → (applied c s).me ≡ s.me
+      → GuardsOf states h s c
       → IsTabled (put_state h (applied c s) states) (row_table h (applied c s) table)
   host_tabled c fit right one inside o' me' guards =
       let turn : Turn s (applied c s) (to_move c s) (from_move c) = turn_of c s o calm fit right one (paired.wide h s there) (one_side c s) in

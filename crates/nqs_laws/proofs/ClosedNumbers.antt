@@ -29,8 +29,8 @@ use Rattle.nqs_laws.specs.Closed.{HasState, IsClosedBy, HasNoHand, MayClose, Clo
 use Rattle.nqs_laws.proofs.Frame.{Moment, Way, Taken, Begun, Booted, change_by}
 use Rattle.nqs_laws.proofs.Sound.{IsSound, Suits, some-if}
 use Rattle.nqs_laws.proofs.Makes.{Answers, Obeys, Follows, step_makes}
-use Rattle.nqs_laws.proofs.Pair.{NoOffer, Pledge, Move, Stays, Offers, Withdraws, Commits}
-use Rattle.nqs_laws.proofs.Pair.{Finishes, Pledges, Accepts, Drops, moved, pair, May}
+use Rattle.nqs_laws.proofs.Pair.{NoOffer, Pledge, Move, Stays}
+use Rattle.nqs_laws.proofs.Pair.{Pledges, Accepts, Drops, moved, pair, stays_shut, May}
 use Rattle.nqs_laws.proofs.Views.{pledged, pair_of, has_number_key, host_exact}
 use Rattle.nqs_laws.proofs.Turns.{from_move, promised_move, key_here, same_key}
 use Rattle.nqs_laws.proofs.Targets.{targets, silent_target}
@@ -44,16 +44,6 @@ use Rattle.nqs_laws.proofs.LicensedRuns.{IsHistory}
 
 abbrev closed_then : Pledge → Bool → Move → Bool
 closed_then q closed m = (moved (pair NoOffer false q closed) m).closed
-
-stays_shut : (q : Pledge) (closed : Bool) (m : Move) → closed ≡ true → closed_then q closed m ≡ true
-stays_shut q closed Stays k = k
-stays_shut q closed (Offers load) k = k
-stays_shut q closed Withdraws k = k
-stays_shut q closed Commits k = k
-stays_shut q closed Finishes k = k
-stays_shut q closed (Pledges load) k = k
-stays_shut q closed Accepts k = refl
-stays_shut q closed Drops k = refl
 
 -- silent offers leave it
 silent_closed : (until : ℕ) (ks : List PeerNumber) (s : Plain) (a : HostId) (n : ℕ) → is_closed_for a n (hands_silent until ks s) ≡ is_closed_for a n s
@@ -107,7 +97,8 @@ starts_new s r (OldPromised peer number queue c script) starts old = starts
 starts_new s r (Edited e) starts old = old
 starts_new s r c starts old = old
 
-pub way_new : (packets : List Message) (h : HostId) (s : Plain) → IsInOrder s → (way : Way packets h s) (c : Change (List ℕ)) → change_by way ≡ Some c → IsOld c → ⊥
+pub way_new : (packets : List Message) (h : HostId) (s : Plain) → IsInOrder s → (way : Way packets h s) (c : Change (List ℕ)) → change_by way ≡ Some c
+    → IsOld c → ⊥
 way_new packets h s o (Taken e comes) c is old = follows_new e s c (some-if (Follows e s) _ c (step_makes s e) is) old
 way_new packets h s o (Begun now x begins) c is old =
     let started = start_is now s x (steady s o) begins in
@@ -142,7 +133,7 @@ module _ (site : List (List ℕ)) (first : List Plain) (m : Moment) (sound : IsS
 
   -- a closed number stays closed
   pub closed_stays : (a : HostId) (n : ℕ) → is_closed_for a n s ≡ true → is_closed_for a n then_state ≡ true
-  closed_stays a n closed = closed_after a n ∙ stays_shut (pledged s a n) (is_closed_for a n s) (from_move c a n) closed
+  closed_stays a n closed = closed_after a n ∙ stays_shut (pair NoOffer false (pledged s a n) (is_closed_for a n s)) (from_move c a n) closed
 
   -- a number that is closed now
   module _ (a : HostId) (n : ℕ) (closed : IsClosedBy c a n s) where

@@ -76,7 +76,8 @@ module _ (states : List Plain) (table : Table) (told : IsTabled states table) (o
         sits_here h (table r.id) r (sym (told.rows h s at r.id) ∙ found)
 
     -- a promise that its sender has committed
-    promise_arrives : (i : ℕ) (p : Pledging) → slice_get s.promises i ≡ Some p → is_arriving states h p ≡ true → table p.row.id ≡ Arrives p.peer h p.number p.row
+    promise_arrives : (i : ℕ) (p : Pledging) → slice_get s.promises i ≡ Some p → is_arriving states h p ≡ true
+        → table p.row.id ≡ Arrives p.peer h p.number p.row
     promise_arrives i p there comes = of (slice_get states p.peer.0) refl comes
       where
         promised : find_promise p.peer p.number s ≡ Some p
@@ -95,7 +96,8 @@ module _ (states : List Plain) (table : Table) (told : IsTabled states table) (o
             phase Committed f g = f
             phase Offered f g = absurd (true≢false (sym g))
 
-        of : (x : Option Plain) → slice_get states p.peer.0 ≡ x → passes (is_committed_to h p.number) x ≡ true → table p.row.id ≡ Arrives p.peer h p.number p.row
+        of : (x : Option Plain) → slice_get states p.peer.0 ≡ x → passes (is_committed_to h p.number) x ≡ true
+            → table p.row.id ≡ Arrives p.peer h p.number p.row
         of None e k = absurd (true≢false (sym k))
         of (Some u) e k = by u e (find_hand h p.number u) refl k
 
@@ -146,7 +148,8 @@ module _ (states : List Plain) (table : Table) (told : IsTabled states table) (o
         none (q ∷ qs) comes far =
             let f = or_parts (peer_number_eq (promise_key p) (promise_key q)) (list_any (peer_number_eq (promise_key p)) (map promise_key qs)) far in
             let other : id_eq p.row.id q.row.id ≡ false = false_from_ne_true (id_eq p.row.id q.row.id) (λ same.
-            let places : Arrives p.peer h p.number p.row ≡ Arrives q.peer h q.number q.row = sym all.0 ∙ (ap table (id_exact p.row.id q.row.id same) ∙ comes.0) in
+            let places : Arrives p.peer h p.number p.row ≡ Arrives q.peer h q.number q.row = sym all.0
+            ∙ (ap table (id_exact p.row.id q.row.id same) ∙ comes.0) in
             let peers : p.peer ≡ q.peer = cc in
             let numbers : p.number ≡ q.number = cc in
             let keys : promise_key p ≡ promise_key q = (λ j. record { peer = peers j; number = numbers j }) in

@@ -13,7 +13,8 @@ use Rattle.nqs_types.specs.declared.request.Phase.{Phase}
 use Rattle.nqs_types.specs.declared.request.Phase.TheVariants.{Offered, Committed}
 use Rattle.nqs_types.specs.declared.change.Change.{Change}
 use Rattle.nqs_types.specs.declared.change.Change.TheVariants.{Submitted, Deleted, Doomed, Started, Ended, Unlaunched, Boot, Edited, HandOpened, HandCommitted}
-use Rattle.nqs_types.specs.declared.change.Change.TheVariants.{HandRefused, HandsSilent, HandDone, OldPromised, Promised, Accepted, Dropped, MovedLocal, RefusedLocal}
+use Rattle.nqs_types.specs.declared.change.Change.TheVariants.{HandRefused, HandsSilent, HandDone, OldPromised, Promised, Accepted, Dropped, MovedLocal}
+use Rattle.nqs_types.specs.declared.change.Change.TheVariants.{RefusedLocal}
 use Rattle.nqs_types.specs.declared.change.Change.TheVariants.{HeldFar, StageGot, StageGone, FileGone}
 use Rattle.nqs_types.specs.declared.message.Message.{Message}
 use Rattle.nqs_types.specs.declared.message.Body.{Body}
@@ -42,7 +43,8 @@ use Rattle.nqs_laws.proofs.Pair.{Open, IsTaken, IsNoOffer, Move, Stays, Withdraw
 use Rattle.nqs_laws.proofs.Pair.{MayCommit, MayFinish, MayAccept}
 use Rattle.nqs_laws.proofs.Views.{phase_seen, offer_seen, offered, gave, pledged, pair_of, has_number_key, host_exact, routing_of}
 use Rattle.nqs_laws.proofs.Turns.{to_move, from_move, deleted_move, offers_by, IsQuiet, key_here, opening_peer, opening_new}
-use Rattle.nqs_laws.proofs.Paired.{At, HoldsFor, LowWord, IsPaired, IsOne, GuardsOf, open_offer, given_offer, pledge_at, no_pledge, no_hand_seen, none_below_low}
+use Rattle.nqs_laws.proofs.Paired.{At, HoldsFor, LowWord, IsPaired, IsOne, GuardsOf, open_offer, given_offer, pledge_at, no_pledge, no_hand_seen}
+use Rattle.nqs_laws.proofs.Paired.{none_below_low}
 use Rattle.nqs_laws.proofs.Paired.{given_below_low}
 
 -- what is seen of an offered hand
@@ -149,7 +151,8 @@ module _ (states : List Plain) (packets : List Message) (k : IsPaired states pac
     known u at = subst (λ i. HoldsFor (pair_of x.from u i s (body_number x.body)) (pair_of i s x.from u (body_number x.body)) x.body) to
         (k.words x sent u s at (ap (λ (i : HostId). slice_get states i.0) to ∙ there))
 
-    known_of : (b : Body) → x.body ≡ b → (u : Plain) → At states x.from u → HoldsFor (pair_of x.from u h s (body_number b)) (pair_of h s x.from u (body_number b)) b
+    known_of : (b : Body) → x.body ≡ b → (u : Plain) → At states x.from u
+        → HoldsFor (pair_of x.from u h s (body_number b)) (pair_of h s x.from u (body_number b)) b
     known_of b e u at = subst (λ d. HoldsFor (pair_of x.from u h s (body_number d)) (pair_of h s x.from u (body_number d)) d) e (known u at)
 
     low_of : (b : Body) → x.body ≡ b → (u : Plain) → At states x.from u → LowWord b h u
@@ -168,7 +171,8 @@ module _ (states : List Plain) (packets : List Message) (k : IsPaired states pac
       from_peers = λ a u at i. by a u at i (has_number_key a i (peer_number x.from n)) refl (same_host a x.from) refl (nat_lt i low) refl;
     }
       where
-        by : (a : HostId) (u : Plain) → At states a u → (i : ℕ) (c1 : Bool) → has_number_key a i (peer_number x.from n) ≡ c1 → (d : Bool) → same_host a x.from ≡ d
+        by : (a : HostId) (u : Plain) → At states a u → (i : ℕ) (c1 : Bool) → has_number_key a i (peer_number x.from n) ≡ c1 → (d : Bool)
+            → same_host a x.from ≡ d
             → (b : Bool) → nat_lt i low ≡ b
             → May (pair_of a u h s i) (if c1 then Pledges (sent_load queue c script) else (if d && b then Drops else Stays))
         by a u at i true f d g b l =

@@ -1,6 +1,6 @@
 -- Where requests lie after a handover is committed, and after it is accepted.
-use Rattle.std.proofs.Common.{◌≡◌, ℕ, ◌≤◌, inl, inr, Bool, true, false, ◌&&◌, ◌==◌, List, [], ◌∷◌, ◌++◌, slice_get, Option, None, Some, true≢false, refl, sym}
-use Rattle.std.proofs.Common.{ap, subst, ◌∙◌, arith, if◌then◌else◌}
+use Rattle.std.proofs.Common.{◌≡◌, ℕ, ◌≤◌, inl, inr, Bool, true, false, ◌&&◌, ◌==◌, List, [], ◌∷◌, slice_get, Option, None, Some, true≢false, refl, sym}
+use Rattle.std.proofs.Common.{ap, subst, ◌∙◌, if◌then◌else◌}
 use Rattle.std.proofs.lemmas.Bool.{and_parts, and_from}
 use Rattle.std.proofs.lemmas.Option.{same_Some}
 use Rattle.std.specs.Option.{option_or}
@@ -9,14 +9,13 @@ use Rattle.nqs_state.specs.State.{Plain}
 use Rattle.nqs_state.specs.Keys.{is_hand}
 use Rattle.nqs_types.specs.declared.ids.HostId.{HostId}
 use Rattle.nqs_types.specs.declared.ids.PeerNumber.{PeerNumber}
-use Rattle.nqs_types.specs.declared.request.Hand.{Hand}
 use Rattle.nqs_types.specs.declared.request.Phase.TheVariants.{Offered}
 use Rattle.nqs_types.specs.declared.change.Change.TheVariants.{HandCommitted, Accepted}
 use Rattle.nqs_types.specs.declared.message.Message.{Message}
 use Rattle.nqs_state.proofs.LeastLemmas.{found_id}
 use Rattle.nqs_rules.specs.Tests.{is_offered, is_routing, same_host}
-use Rattle.nqs_rules.specs.Find.{peer_number, find_row, find_hand, find_promise, has_row}
-use Rattle.nqs_rules.specs.Applied.{applied, requeued_row, hand_committed, accepted, drop_promise}
+use Rattle.nqs_rules.specs.Find.{peer_number, find_row, find_promise}
+use Rattle.nqs_rules.specs.Applied.{applied, requeued_row}
 use Rattle.nqs_rules.specs.Fits.{fits}
 use Rattle.nqs_rules.specs.InOrder.{IsInOrder, IsConsistent}
 use Rattle.nqs_rules.proofs.RowFacts.{same_id}
@@ -27,7 +26,8 @@ use Rattle.nqs_laws.proofs.Sound.{get-here}
 use Rattle.nqs_laws.proofs.After.{Request, without_at, committed_after, accepted_after, row_after}
 use Rattle.nqs_laws.proofs.Makes.{HasHand}
 use Rattle.nqs_laws.specs.Handovers.{is_closed_for}
-use Rattle.nqs_laws.proofs.Pair.{Offer, NoOffer, Open, Given, NoPledge, Pledged, OfferOk, PledgeOk, pair, Ok, Stays, Commits, Accepts, moved, May, MayCommit, MayAccept}
+use Rattle.nqs_laws.proofs.Pair.{Offer, NoOffer, Open, Given, NoPledge, Pledged, OfferOk, PledgeOk, pair, Ok, Stays, Commits, Accepts, moved, May, MayCommit}
+use Rattle.nqs_laws.proofs.Pair.{MayAccept}
 use Rattle.nqs_laws.proofs.Pair.{given}
 use Rattle.nqs_laws.proofs.Views.{Pledging, phase_seen, offer_seen, offered, gave, pledge_seen, pledged, pair_of, has_number_key, host_exact, routing_of}
 use Rattle.nqs_laws.proofs.Turns.{to_move, from_move, key_here, same_key}
@@ -35,6 +35,7 @@ use Rattle.nqs_laws.proofs.Targets.{promise_at}
 use Rattle.nqs_laws.proofs.Paired.{At, IsPaired, Turn, turn_of, GuardsOf, IsOne, Was, was}
 use Rattle.nqs_laws.proofs.Tabled.{Place, Nowhere, Sits, Arrives, row_in, claim_in, claim, Table, IsTabled, IsPlaced, IsHeldMove, held_or, claim_stays}
 use Rattle.nqs_laws.proofs.Tabled.{sits_here, arrives_here, row_of_sits, row_elsewhere, claim_of_arrives, given_before, still_placed, row_before}
+use Rattle.nqs_laws.proofs.Advance.{seq_grows}
 
 -- the table with another place of one request
 abbrev pub put_place : Request → Place → Table → Table
@@ -76,7 +77,8 @@ module _ (states : List Plain) (packets : List Message) (paired : IsPaired state
     row = routing_of s o (is_hand (peer_number peer number)) hand.hand hand.found (ap is_offered hand.is)
 
     offer_is : offered s peer number ≡ Open (offered_load hand.hand.queue row.0)
-    offer_is = ap (λ x. offer_seen x s) hand.found ∙ (ap (λ p. phase_seen p hand.hand (find_row hand.hand.id s)) hand.is ∙ ap (phase_seen Offered hand.hand) row.1)
+    offer_is = ap (λ x. offer_seen x s) hand.found
+        ∙ (ap (λ p. phase_seen p hand.hand (find_row hand.hand.id s)) hand.is ∙ ap (phase_seen Offered hand.hand) row.1)
 
     -- the promise of the peer
     pub promise : (p : Pledging) × (find_promise h number t ≡ Some p) × (kept_load p.row ≡ offered_load hand.hand.queue row.0)
@@ -137,11 +139,7 @@ module _ (states : List Plain) (packets : List Message) (paired : IsPaired state
     }
       where
         seq_same : s.seq ≤ (applied (HandCommitted peer number) s).seq
-        seq_same = let e : (applied (HandCommitted peer number) s).seq ≡ s.seq = of (find_hand peer number s) in omega (arith, e)
-          where
-            of : (x : Option Hand) → (hand_committed (peer_number peer number) x s).seq ≡ s.seq
-            of None = refl
-            of (Some y) = refl
+        seq_same = seq_grows (HandCommitted peer number) s fit
 
         here_row : (x : Request) (c : Bool) → id_eq x hand.hand.id ≡ c → (if c then None else find_row x s)
             ≡ row_in h (if c then Arrives h peer number promise.0.row else table x)
@@ -230,7 +228,8 @@ module _ (states : List Plain) (packets : List Message) (paired : IsPaired state
                 (held a b n (same_host a h) refl e) (held_or (same_host b h) Stays tt) x
                 ∙ (told.claims a b w.state y.state w.at y.at n x ∙ else_claim a b n e x (id_eq x hand.hand.id) refl)
 
-        given_at : (x : Request) → table x ≡ Nowhere → (c : Bool) → id_eq x hand.hand.id ≡ c → (if c then Arrives h peer number promise.0.row else table x) ≡ Nowhere
+        given_at : (x : Request) → table x ≡ Nowhere → (c : Bool) → id_eq x hand.hand.id ≡ c
+            → (if c then Arrives h peer number promise.0.row else table x) ≡ Nowhere
         given_at x none true e = absurd (let sits : Nowhere ≡ Sits h row.0 = sym none ∙ (ap table (id_exact x hand.hand.id e) ∙ was_here) in let no : ⊥ = cc in
             no)
         given_at x none false e = none
@@ -258,7 +257,8 @@ module _ (states : List Plain) (packets : List Message) (paired : IsPaired state
         by : (y : Offer) → offered u h number ≡ y → Ok (pair_of peer u h s number) → May (pair_of peer u h s number) Accepts
             → (id : Request) × (queue : List ℕ) × (offered u h number ≡ Given id queue)
         by y e ok may = of y e (subst (λ q. PledgeOk q (gave u h number) (is_closed_for peer number s)) pledged_is ok.pledge)
-            (subst (λ q. MayAccept q y (is_closed_for peer number s)) pledged_is (subst (λ z. MayAccept (pledged s peer number) z (is_closed_for peer number s)) e
+            (subst (λ q. MayAccept q y (is_closed_for peer number s)) pledged_is
+            (subst (λ z. MayAccept (pledged s peer number) z (is_closed_for peer number s)) e
             may))
           where
             pledged_is : pledged s peer number ≡ Pledged (kept_load pledge.0.row)
@@ -300,16 +300,7 @@ module _ (states : List Plain) (packets : List Message) (paired : IsPaired state
     }
       where
         seq_same : s.seq ≤ (applied (Accepted peer number) s).seq
-        seq_same = let e : (applied (Accepted peer number) s).seq ≡ s.seq = of (find_promise peer number s) in omega (arith, e)
-          where
-            of : (x : Option Pledging) → (accepted (peer_number peer number) x s).seq ≡ s.seq
-            of None = refl
-            of (Some p) = by (has_row p.row.id s)
-              where
-                by : (z : Bool) → (if z then drop_promise (peer_number peer number) s else
-                    record (drop_promise (peer_number peer number) s) { rows = s.rows ++ requeued_row p.row ∷ [] }).seq ≡ s.seq
-                by true = refl
-                by false = refl
+        seq_same = seq_grows (Accepted peer number) s fit
 
         here_row : (x : Request) (c : Bool) → id_eq x pledge.0.row.id ≡ c
             → option_or (find_row x s) (if c then Some (requeued_row pledge.0.row) else None)

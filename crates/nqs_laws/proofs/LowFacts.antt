@@ -32,7 +32,8 @@ low_next b next (y ∷ ys) = by (is_hand_to b y) (low_next b next ys)
 
 pub low_each : (b : HostId) (v next : ℕ) (ys : List Hand) → v ≤ low b next ys → list_all (is_above b v) ys ≡ true
 low_each b v next [] few = refl
-low_each b v next (y ∷ ys) few = and_from (is_above b v y) (list_all (is_above b v) ys) (own (is_hand_to b y) few) (low_each b v next ys (less (is_hand_to b y) few))
+low_each b v next (y ∷ ys) few = and_from (is_above b v y) (list_all (is_above b v) ys) (own (is_hand_to b y) few)
+    (low_each b v next ys (less (is_hand_to b y) few))
   where
     own : (c : Bool) → v ≤ (if c then min y.number (low b next ys) else low b next ys) → (not c || nat_le v y.number) ≡ true
     own true few = le-leb v y.number (omega (arith, few))

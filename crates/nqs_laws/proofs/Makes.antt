@@ -50,7 +50,8 @@ pub record HasHand (phase : Phase) (peer : HostId) (n : ℕ) (s : Plain) : Type 
 
 -- the change that a message makes
 abbrev pub Answers : Body → HostId → Plain → Change (List ℕ) → Type 0
-Answers (body.Offer n low queue c script) peer s ch = (ch ≡ Promised peer n low queue c script) × (closes n (find_peer peer s) ≡ false) × (has_promise peer n s ≡ false)
+Answers (body.Offer n low queue c script) peer s ch = (ch ≡ Promised peer n low queue c script) × (closes n (find_peer peer s) ≡ false)
+    × (has_promise peer n s ≡ false)
 Answers (body.Ready n) peer s ch = (ch ≡ HandCommitted peer n) × HasHand Offered peer n s
 Answers (body.Refused n refusal) peer s ch = (ch ≡ HandRefused peer n refusal) × HasHand Offered peer n s
 Answers (body.Commit n) peer s ch = (ch ≡ Accepted peer n) × (has_promise peer n s ≡ true)

@@ -1,5 +1,6 @@
 -- What a receiver keeps of handovers is near its floor, and that is below the low of their source.
-use Rattle.std.proofs.Common.{◌≡◌, ℕ, ◌+◌, ◌-◌, ◌<◌, ◌≤◌, ◌⊎◌, inl, inr, Bool, true, false, cond, not, ◌&&◌, ◌||◌, ◌==◌, nat_lt, nat_le, max, List, [], ◌∷◌, ◌++◌}
+use Rattle.std.proofs.Common.{◌≡◌, ℕ, ◌+◌, ◌-◌, ◌<◌, ◌≤◌, ◌⊎◌, inl, inr, Bool, true, false, cond, not, ◌&&◌, ◌||◌, ◌==◌, nat_lt, nat_le, max, List, [], ◌∷◌}
+use Rattle.std.proofs.Common.{◌++◌}
 use Rattle.std.proofs.Common.{map, filter, find, length, slice_get, Option, None, Some, true≢false, zero, suc, refl, sym, ap, subst, ◌∙◌, arith, if◌then◌else◌}
 use Rattle.std.proofs.lemmas.Bool.{and_parts, and_from, or_parts, leb-true, le-leb, ltb-true, not-true, not_from_false}
 use Rattle.std.proofs.lemmas.Option.{same_Some, none-some}
@@ -15,7 +16,8 @@ use Rattle.nqs_types.specs.declared.request.Hand.{Hand}
 use Rattle.nqs_types.specs.declared.request.Peer.{Peer}
 use Rattle.nqs_types.specs.declared.change.Change.{Change}
 use Rattle.nqs_types.specs.declared.change.Change.TheVariants.{Site, Submitted, Deleted, Doomed, Started, Ended, Unlaunched, Boot, Edited, HandOpened}
-use Rattle.nqs_types.specs.declared.change.Change.TheVariants.{HandCommitted, HandRefused, HandsSilent, HandDone, OldPromised, Promised, Accepted, Dropped, MovedLocal}
+use Rattle.nqs_types.specs.declared.change.Change.TheVariants.{HandCommitted, HandRefused, HandsSilent, HandDone, OldPromised, Promised, Accepted, Dropped}
+use Rattle.nqs_types.specs.declared.change.Change.TheVariants.{MovedLocal}
 use Rattle.nqs_types.specs.declared.change.Change.TheVariants.{RefusedLocal, HeldFar, StageGot, StageGone, FileGone}
 use Rattle.nqs_types.specs.declared.message.Message.{Message}
 use Rattle.nqs_types.specs.declared.message.Body.{Body}
@@ -34,7 +36,8 @@ use Rattle.nqs_rules.specs.Applied.{applied, requeued_row, hand_committed, hand_
 use Rattle.nqs_rules.specs.Fits.{fits, promise_fits, is_open_number, is_site_host, is_unknown, offer_full}
 use Rattle.nqs_rules.specs.Starts.{after_change}
 use Rattle.nqs_rules.specs.Format.{formatted, new_peer}
-use Rattle.nqs_rules.specs.InOrder.{IsInOrder, IsConsistent, are_distinct, same_number, ascends_from, is_peer_right, is_hand_right, is_hand_given, has_few_hands}
+use Rattle.nqs_rules.specs.InOrder.{IsInOrder, IsConsistent, are_distinct, same_number, ascends_from, is_peer_right, is_hand_right, is_hand_given}
+use Rattle.nqs_rules.specs.InOrder.{has_few_hands}
 use Rattle.nqs_rules.specs.World.{Act, new_world}
 use Rattle.nqs_rules.specs.Run.{run}
 use Rattle.nqs_rules.proofs.Chains.{each}
@@ -88,7 +91,8 @@ PeerAfter c s a q' = (q : Peer) × (find_peer a s ≡ Some q) × (((q'.floor ≡
     ⊎ (((low : ℕ) × RaisedBy c a low × (q'.floor ≡ max q.floor (low - 1)) × (q'.closed ≡ filter (nat_lt (max q.floor (low - 1))) q.closed))
     ⊎ ((number : ℕ) × (has_promise a number s ≡ true) × (q'.floor ≡ q.floor) × (q'.closed ≡ joined number q.closed))))
 
-of_shut : (c : Change (List ℕ)) (s : Plain) (a : HostId) (o o' : Option Peer) (q' : Peer) → find_peer a s ≡ o → o' ≡ Some q' → shut o' ≡ shut o → PeerAfter c s a q'
+of_shut : (c : Change (List ℕ)) (s : Plain) (a : HostId) (o o' : Option Peer) (q' : Peer) → find_peer a s ≡ o → o' ≡ Some q' → shut o' ≡ shut o
+    → PeerAfter c s a q'
 of_shut c s a None None q' was is e = absurd (none-some q' is)
 of_shut c s a None (Some p) q' was is e = absurd (none-some _ (sym e))
 of_shut c s a (Some q) None q' was is e = absurd (none-some q' is)
@@ -121,7 +125,8 @@ changed_peer s a q' peer f known is = by (same_host a peer) refl
     by false e = inr (sym (peer_other peer.0 a.0 f s.peers (λ same. true≢false (sym (ap (λ i. i == peer.0) (sym same) ∙ host_same peer) ∙ e))) ∙ is)
 
 module _ (s : Plain) (h : IsInOrder s) (a : HostId) (q' : Peer) where
-  raised_peer : (c : Change (List ℕ)) (peer : HostId) (low : ℕ) → (a ≡ peer → RaisedBy c a low) → KeptPeer s peer → slice_get (change_at peer.0 (raise_floor (low - 1)) s.peers) a.0 ≡ Some q' → PeerAfter c s a q'
+  raised_peer : (c : Change (List ℕ)) (peer : HostId) (low : ℕ) → (a ≡ peer → RaisedBy c a low) → KeptPeer s peer
+      → slice_get (change_at peer.0 (raise_floor (low - 1)) s.peers) a.0 ≡ Some q' → PeerAfter c s a q'
   raised_peer c peer low why known is = by (changed_peer s a q' peer (raise_floor (low - 1)) known is)
     where
       by : ((a ≡ peer) × (find_peer a s ≡ Some known.0) × (raise_floor (low - 1) known.0 ≡ q')) ⊎ (find_peer a s ≡ Some q') → PeerAfter c s a q'
@@ -173,7 +178,8 @@ module _ (s : Plain) (h : IsInOrder s) (a : HostId) (q' : Peer) where
   peer_after : (c : Change (List ℕ)) → fits c s ≡ true → find_peer a (applied c s) ≡ Some q' → PeerAfter c s a q'
   peer_after (Site me site) fit is = absurd (true≢false (sym fit))
   peer_after (Deleted id) fit is = (q', is, inl (refl, refl))
-  peer_after (HandOpened peer number id queue since) fit is = of_shut (HandOpened peer number id queue since) s a (find_peer a s) (find_peer a (applied (HandOpened peer number id queue since) s)) q'
+  peer_after (HandOpened peer number id queue since) fit is =
+      of_shut (HandOpened peer number id queue since) s a (find_peer a s) (find_peer a (applied (HandOpened peer number id queue since) s)) q'
       refl is (peer_kept shut peer.0 a.0 (λ p. record p { next = number + 1 }) s.peers (λ p. refl))
   peer_after (HandCommitted peer number) fit is = of (find_hand peer number s) is
     where
@@ -185,7 +191,8 @@ module _ (s : Plain) (h : IsInOrder s) (a : HostId) (q' : Peer) where
       of : (o : Option Hand) → find_peer a (hand_refused (peer_number peer number) refusal o s) ≡ Some q' → PeerAfter (HandRefused peer number refusal) s a q'
       of None e = (q', e, inl (refl, refl))
       of (Some y) e = (q', e, inl (refl, refl))
-  peer_after (HandsSilent until ks) fit is = of_shut (HandsSilent until ks) s a (find_peer a s) (find_peer a (hands_silent until ks s)) q' refl is (silents_shut until ks s)
+  peer_after (HandsSilent until ks) fit is =
+      of_shut (HandsSilent until ks) s a (find_peer a s) (find_peer a (hands_silent until ks s)) q' refl is (silents_shut until ks s)
   peer_after (HandDone peer number) fit is = (q', is, inl (refl, refl))
   peer_after (OldPromised peer number queue k script) fit is = raised_peer (OldPromised peer number queue k script) peer number (λ e. inl tt)
       (offer_known peer number number queue k fit) is
@@ -234,7 +241,8 @@ IsPromisedNow c a n = (low : ℕ) × (queue : List ℕ) × (k : Carried) × (scr
 
 pledges_only : (c : Change (List ℕ)) → (IsOld c → ⊥) → (a : HostId) (n : ℕ) (load : Load) → from_move c a n ≡ Pledges load → IsPromisedNow c a n
 pledges_only (OldPromised peer number queue k script) new a n load e = absurd (new tt)
-pledges_only (Promised peer number low queue k script) new a n load e = by (has_number_key a n (peer_number peer number)) refl (same_host a peer && nat_lt n low) e
+pledges_only (Promised peer number low queue k script) new a n load e = by (has_number_key a n (peer_number peer number)) refl
+    (same_host a peer && nat_lt n low) e
   where
     by : (d : Bool) → has_number_key a n (peer_number peer number) ≡ d → (f : Bool)
         → (if d then Pledges (sent_load queue k script) else (if f then Drops else Stays)) ≡ Pledges load
@@ -262,7 +270,8 @@ of_move s s' a n Stays t k =
     let p = promise_at s' a n k in
     inl (any_found (is_promise (peer_number a n)) s.promises p.0 (sym (t.stays refl) ∙ p.1))
 of_move s s' a n (Pledges load) t k = inr (load, refl)
-of_move s s' a n Accepts t k = absurd (let p = pledge_at s' a n k in let e : Pledged (kept_load p.0.row) ≡ NoPledge = sym p.1 ∙ t.pledge in let no : ⊥ = cc in no)
+of_move s s' a n Accepts t k = absurd (let p = pledge_at s' a n k in let e : Pledged (kept_load p.0.row) ≡ NoPledge = sym p.1 ∙ t.pledge in
+    let no : ⊥ = cc in no)
 of_move s s' a n Drops t k = absurd (let p = pledge_at s' a n k in let e : Pledged (kept_load p.0.row) ≡ NoPledge = sym p.1 ∙ t.pledge in let no : ⊥ = cc in no)
 of_move s s' a n (Offers load) t k = absurd t.is
 of_move s s' a n Withdraws t k = absurd t.is
@@ -292,7 +301,8 @@ all_joined : (u number : ℕ) (ns : List ℕ) → number ≤ u → list_all (λ 
 all_joined u number [] few k = and_from (nat_le number u) true (le-leb number u few) refl
 all_joined u number (n ∷ ns) few k = by (nat_lt number n) (and_parts (nat_le n u) (list_all (λ n. nat_le n u) ns) k) (all_joined u number ns few)
   where
-    by : (b : Bool) → (nat_le n u ≡ true) × (list_all (λ n. nat_le n u) ns ≡ true) → (list_all (λ n. nat_le n u) ns ≡ true → list_all (λ n. nat_le n u) (joined number ns) ≡ true)
+    by : (b : Bool) → (nat_le n u ≡ true) × (list_all (λ n. nat_le n u) ns ≡ true)
+        → (list_all (λ n. nat_le n u) ns ≡ true → list_all (λ n. nat_le n u) (joined number ns) ≡ true)
         → list_all (λ n. nat_le n u) (if b then number ∷ n ∷ ns else n ∷ joined number ns) ≡ true
     by true p rest = and_from (nat_le number u) (list_all (λ n. nat_le n u) (n ∷ ns)) (le-leb number u few) k
     by false p rest = and_from (nat_le n u) (list_all (λ n. nat_le n u) (joined number ns)) p.0 (rest p.1)
@@ -315,7 +325,8 @@ near_kept c s o fit right new bound near a q' is = (λ n k. promises n (promise_
     grown = by after.2
       where
         by : ((q'.floor ≡ after.0.floor) × (q'.closed ≡ after.0.closed))
-            ⊎ (((low : ℕ) × RaisedBy c a low × (q'.floor ≡ max after.0.floor (low - 1)) × (q'.closed ≡ filter (nat_lt (max after.0.floor (low - 1))) after.0.closed))
+            ⊎ (((low : ℕ) × RaisedBy c a low × (q'.floor ≡ max after.0.floor (low - 1))
+            × (q'.closed ≡ filter (nat_lt (max after.0.floor (low - 1))) after.0.closed))
             ⊎ ((number : ℕ) × (has_promise a number s ≡ true) × (q'.floor ≡ after.0.floor) × (q'.closed ≡ joined number after.0.closed)))
             → after.0.floor ≤ q'.floor
         by (inl e) = let f = e.0 in omega (arith, f)
@@ -330,7 +341,8 @@ near_kept c s o fit right new bound near a q' is = (λ n k. promises n (promise_
         omega (arith, few, floor)
 
     closed : ((q'.floor ≡ after.0.floor) × (q'.closed ≡ after.0.closed))
-        ⊎ (((low : ℕ) × RaisedBy c a low × (q'.floor ≡ max after.0.floor (low - 1)) × (q'.closed ≡ filter (nat_lt (max after.0.floor (low - 1))) after.0.closed))
+        ⊎ (((low : ℕ) × RaisedBy c a low × (q'.floor ≡ max after.0.floor (low - 1))
+        × (q'.closed ≡ filter (nat_lt (max after.0.floor (low - 1))) after.0.closed))
         ⊎ ((number : ℕ) × (has_promise a number s ≡ true) × (q'.floor ≡ after.0.floor) × (q'.closed ≡ joined number after.0.closed)))
         → list_all (λ n. nat_le n (q'.floor + 64)) q'.closed ≡ true
     closed (inl e) = subst (λ l. list_all (λ n. nat_le n (q'.floor + 64)) l ≡ true) (sym e.1)
@@ -567,7 +579,8 @@ distinct_to b (y ∷ ys) d =
     let p = and_parts (not (list_any (peer_number_eq (hand_key y)) (map hand_key ys))) (are_distinct peer_number_eq (map hand_key ys)) d in
     by (is_hand_to b y) refl p.0 (distinct_to b ys p.1)
   where
-    by : (c : Bool) → is_hand_to b y ≡ c → not (list_any (peer_number_eq (hand_key y)) (map hand_key ys)) ≡ true → are_distinct same_number (numbers_to b ys) ≡ true
+    by : (c : Bool) → is_hand_to b y ≡ c → not (list_any (peer_number_eq (hand_key y)) (map hand_key ys)) ≡ true
+        → are_distinct same_number (numbers_to b ys) ≡ true
         → are_distinct same_number (map (λ (w : Hand). w.number) (cond c (y ∷ filter (is_hand_to b) ys) (filter (is_hand_to b) ys))) ≡ true
     by true e far rest = and_from (not (list_any (same_number y.number) (numbers_to b ys))) (are_distinct same_number (numbers_to b ys))
         (not_from_false (list_any (same_number y.number) (numbers_to b ys))
@@ -577,7 +590,8 @@ distinct_to b (y ∷ ys) d =
 given_to : (b : HostId) (s : Plain) (ys : List Hand) → list_all (is_hand_right s) ys ≡ true
     → list_all (λ n. was_given n (find_peer b s)) (numbers_to b ys) ≡ true
 given_to b s [] k = refl
-given_to b s (y ∷ ys) k = let p = and_parts (is_hand_right s y) (list_all (is_hand_right s) ys) k in by (is_hand_to b y) refl (hand_is s y p.0).given (given_to b s ys p.1)
+given_to b s (y ∷ ys) k = let p = and_parts (is_hand_right s y) (list_all (is_hand_right s) ys) k in
+    by (is_hand_to b y) refl (hand_is s y p.0).given (given_to b s ys p.1)
   where
     given : (o : Option Peer) → passes (is_hand_given y.number) o ≡ true → was_given y.number o ≡ true
     given None k = absurd (true≢false (sym k))
@@ -610,7 +624,8 @@ few_to b s o = of (find (is_hand_to b) s.hands) refl
         leb-true (length (filter (is_hand_to b) s.hands)) 8 (ap (λ (i : HostId). nat_le (length (filter (is_hand_to i) s.hands)) 8) here ∙ right)
 
 -- numbers that ascend from a floor to a bound are few
-few_ascend : (floor bound : ℕ) (ns : List ℕ) → floor ≤ bound → ascends_from floor ns ≡ true → list_all (λ n. nat_le n bound) ns ≡ true → floor + length ns ≤ bound
+few_ascend : (floor bound : ℕ) (ns : List ℕ) → floor ≤ bound → ascends_from floor ns ≡ true → list_all (λ n. nat_le n bound) ns ≡ true
+    → floor + length ns ≤ bound
 few_ascend floor bound [] few a k = omega (arith, few)
 few_ascend floor bound (n ∷ ns) few a k =
     let p = and_parts (nat_lt floor n) (ascends_from n ns) a in

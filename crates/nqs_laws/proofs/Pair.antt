@@ -208,6 +208,17 @@ moved-ok p m ok may = by p.offer p.pledge m ok may
     by (Open load) q Drops ok may = absurd may.0
     by (Given id queue) q Drops ok may = absurd may.0
 
+-- a closed number stays closed
+pub stays_shut : (p : Pair) (m : Move) → p.closed ≡ true → (moved p m).closed ≡ true
+stays_shut p Stays k = k
+stays_shut p (Offers load) k = k
+stays_shut p Withdraws k = k
+stays_shut p Commits k = k
+stays_shut p Finishes k = k
+stays_shut p (Pledges load) k = k
+stays_shut p Accepts k = refl
+stays_shut p Drops k = refl
+
 -- each move keeps what holds of a message
 pub moved-holds : (p : Pair) (m : Move) (w : Word) → Ok p → May p m → Holds p w → Holds (moved p m) w
 moved-holds p m w ok may holds = by p.offer p.pledge m w ok may holds
@@ -223,17 +234,6 @@ moved-holds p m w ok may holds = by p.offer p.pledge m w ok may holds
     counted o q Accepts k = k
     counted o q Drops k = k
 
-    -- a closed number stays closed
-    shut : (o : Offer) (q : Pledge) (m : Move) → p.closed ≡ true → (moved (with_parts o q p) m).closed ≡ true
-    shut o q Stays k = k
-    shut o q (Offers load) k = k
-    shut o q Withdraws k = k
-    shut o q Commits k = k
-    shut o q Finishes k = k
-    shut o q (Pledges load) k = k
-    shut o q Accepts k = refl
-    shut o q Drops k = refl
-
     taken : (o : Offer) (q : Pledge) (m : Move) → IsTaken q p.closed → IsTaken (moved (with_parts o q p) m).pledge (moved (with_parts o q p) m).closed
     taken o q Stays k = k
     taken o q (Offers load) k = k
@@ -244,7 +244,8 @@ moved-holds p m w ok may holds = by p.offer p.pledge m w ok may holds
     taken o q Accepts k = refl
     taken o q Drops k = refl
 
-    open_of : (o : Offer) (q : Pledge) (m : Move) (load : Load) → May (with_parts o q p) m → p.numbered ≡ true → IsOf o load → IsOf (moved (with_parts o q p) m).offer load
+    open_of : (o : Offer) (q : Pledge) (m : Move) (load : Load) → May (with_parts o q p) m → p.numbered ≡ true → IsOf o load
+        → IsOf (moved (with_parts o q p) m).offer load
     open_of o q Stays load may n k = k
     open_of o q (Offers other) load may n k = absurd (no_both p.numbered n may.1)
     open_of o q Withdraws load may n k = tt
@@ -289,10 +290,11 @@ moved-holds p m w ok may holds = by p.offer p.pledge m w ok may holds
     no_offer o q Accepts may n k = k
     no_offer o q Drops may n k = k
 
-    by : (o : Offer) (q : Pledge) (m : Move) (w : Word) → Ok (with_parts o q p) → May (with_parts o q p) m → Holds (with_parts o q p) w → Holds (moved (with_parts o q p) m) w
+    by : (o : Offer) (q : Pledge) (m : Move) (w : Word) → Ok (with_parts o q p) → May (with_parts o q p) m → Holds (with_parts o q p) w
+        → Holds (moved (with_parts o q p) m) w
     by o q m (OfferOf load) ok may h = (counted o q m h.0, open_of o q m load may h.0 h.1)
     by o q m ReadyFor ok may h = (counted o q m h.0, taken o q m h.1)
     by o q m RefusedOf ok may h = (counted o q m h.0, tt)
     by o q m CommitOf ok may h = (counted o q m h.0, given_or_closed o q m ok may h.0 h.1)
-    by o q m DoneOf ok may h = (counted o q m h.0, shut o q m h.1)
+    by o q m DoneOf ok may h = (counted o q m h.0, stays_shut (with_parts o q p) m h.1)
     by o q m AbortOf ok may h = (counted o q m h.0, no_offer o q m may h.0 h.1)

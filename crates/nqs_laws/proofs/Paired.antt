@@ -1,5 +1,6 @@
 -- What holds of each pair of hosts and of each message, after each change.
-use Rattle.std.proofs.Common.{◌≡◌, ℕ, ◌+◌, ◌<◌, ◌≤◌, ◌⊎◌, inl, inr, Bool, true, false, ◌==◌, List, [], ◌∷◌, ◌++◌, slice_get, Option, None, Some, true≢false, zero}
+use Rattle.std.proofs.Common.{◌≡◌, ℕ, ◌+◌, ◌<◌, ◌≤◌, ◌⊎◌, inl, inr, Bool, true, false, ◌==◌, List, [], ◌∷◌, ◌++◌, slice_get, Option, None, Some, true≢false}
+use Rattle.std.proofs.Common.{zero}
 use Rattle.std.proofs.Common.{suc, refl, sym, ap, subst, ◌∙◌, arith, if◌then◌else◌}
 use Rattle.std.proofs.lemmas.Bool.{lt-ltb}
 use Rattle.std.proofs.lemmas.Option.{same_Some}
@@ -35,7 +36,8 @@ use Rattle.nqs_laws.proofs.Frame.{put_state, WasSent}
 use Rattle.nqs_laws.proofs.Sound.{get-here}
 use Rattle.nqs_laws.specs.Loads.{Load, offered_load, kept_load, sent_load}
 use Rattle.nqs_laws.proofs.Makes.{HasHand}
-use Rattle.nqs_laws.proofs.Pair.{Open, Given, NoPledge, Pledged, Pair, OfferOf, ReadyFor, RefusedOf, CommitOf, DoneOf, AbortOf, IsNoPledge, IsNoOffer, Ok, Holds}
+use Rattle.nqs_laws.proofs.Pair.{Open, Given, NoPledge, Pledged, Pair, OfferOf, ReadyFor, RefusedOf, CommitOf, DoneOf, AbortOf, IsNoPledge, IsNoOffer, Ok}
+use Rattle.nqs_laws.proofs.Pair.{Holds}
 use Rattle.nqs_laws.proofs.Pair.{Move, Stays, moved, May, moved-ok, moved-holds, pair}
 use Rattle.nqs_laws.proofs.Views.{Pledging, phase_seen, offer_seen, offered, gave, pledge_seen, pledged, pair_of, Source, Target, source_pair, target_pair}
 use Rattle.nqs_laws.proofs.Views.{host_exact, host_same, routing_of}

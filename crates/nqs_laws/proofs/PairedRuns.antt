@@ -129,6 +129,25 @@ silent_paired until (n ∷ ks) states packets h s there o calm fit k =
         (list_all-weaker (λ l. not_committed (find_hand l.peer l.number s)) (λ l. not_committed (find (is_hand l) (without_first (is_hand n) s.hands)))
         (λ l. still_offered s o n l) ks rest) (turn_paired states packets h s u there to from turn guards k))
 
+-- what follows of each message that is among outputs of a kind holds of all that these send
+sent_all : (L : Output → Type 0) (P : Message → Type 0) → ((x : Message) → L (out.Send x) → P x) → (os : List Output)
+    → AllByRecursion L os → AllByRecursion P (sent_in os)
+sent_all L P each_one [] all = tt
+sent_all L P each_one (o ∷ os) all = by o all.0 (sent_all L P each_one os all.1)
+  where
+    by : (o : Output) → L o → AllByRecursion P (sent_in os) → AllByRecursion P (sent_by o ++ sent_in os)
+    by (out.Send x) local rest = (each_one x local, rest)
+    by (out.Reply port token reply) local rest = rest
+    by (out.Launch order bytes) local rest = rest
+    by (out.Print device order bytes) local rest = rest
+    by (out.Kill id n) local rest = rest
+    by (out.File file path bytes) local rest = rest
+    by (out.Ended id n status) local rest = rest
+    by (out.Unlaunched id n) local rest = rest
+    by (out.Again id) local rest = rest
+    by (out.Lost id) local rest = rest
+    by (out.Ack port id n) local rest = rest
+
 -- an offer carries a row of its host
 abbrev pub IsOfRow : Plain → Body → Type 0
 IsOfRow t (body.Offer n low queue c script) = (id : RequestId) × (r : PlainRow) × (find_row id t ≡ Some r) × (c ≡ carried_of r) × (script ≡ r.script)
@@ -156,22 +175,7 @@ module _ (states : List Plain) (h : HostId) (s : Plain) (o : IsInOrder s) (calm 
   body_of b d l = tt
 
   rows_offered : (os : List Output) → AllByRecursion (LocalOut states h s o calm wide t) os → AllByRecursion (λ (x : Message). IsOfRow t x.body) (sent_in os)
-  rows_offered [] all = tt
-  rows_offered (p ∷ os) all = by p all.0 (rows_offered os all.1)
-    where
-      by : (p : Output) → LocalOut states h s o calm wide t p → AllByRecursion (λ (x : Message). IsOfRow t x.body) (sent_in os)
-          → AllByRecursion (λ (x : Message). IsOfRow t x.body) (sent_by p ++ sent_in os)
-      by (out.Send x) local rest = (body_of x.to x.body local.1, rest)
-      by (out.Reply port token reply) local rest = rest
-      by (out.Launch order bytes) local rest = rest
-      by (out.Print device order bytes) local rest = rest
-      by (out.Kill id n) local rest = rest
-      by (out.File file path bytes) local rest = rest
-      by (out.Ended id n status) local rest = rest
-      by (out.Unlaunched id n) local rest = rest
-      by (out.Again id) local rest = rest
-      by (out.Lost id) local rest = rest
-      by (out.Ack port id n) local rest = rest
+  rows_offered = sent_all (LocalOut states h s o calm wide t) (λ (x : Message). IsOfRow t x.body) (λ x local. body_of x.to x.body local.1)
 
 module _ (site : List (List ℕ)) (m : Moment) (sound : IsSound site m) (k : IsPaired m.states m.packets) (h : HostId) (s : Plain) (there : At m.states h s) where
   host : IsHost site h.0 s
@@ -216,59 +220,29 @@ module _ (site : List (List ℕ)) (m : Moment) (sound : IsSound site m) (k : IsP
   here_after : (way : Way m.packets h s) → At (states_after way) h (after way)
   here_after way = get-here h.0 (after way) s m.states there
 
+  -- what a host sends says so of the states after, where it is said of its own state
+  sent_so : (way : Way m.packets h s) (P : Message → Type 0)
+      → ((x : Message) → At (states_after way) x.from (after way) → Local (states_after way) x.from (after way) x.to x.body → P x) → (os : List Output)
+      → AllByRecursion (LocalOut (states_after way) h s host.order host.calm (k.wide h s there) (after way)) os → AllByRecursion P (sent_in os)
+  sent_so way P so = sent_all (LocalOut (states_after way) h s host.order host.calm (k.wide h s there) (after way)) P by
+    where
+      by : (x : Message) → LocalOut (states_after way) h s host.order host.calm (k.wide h s there) (after way) (out.Send x) → P x
+      by x local =
+          let from : x.from ≡ h = local.0 ∙ (λ j. ((sound.hosts h.0 s there).head j).0) in
+          so x (ap (λ (i : HostId). slice_get (states_after way) i.0) from ∙ get-here h.0 (after way) s m.states there)
+          (subst (λ i. Local (states_after way) i (after way) x.to x.body) (sym from) local.1)
+
   -- what is sent is true
   sent_true : (way : Way m.packets h s) → IsPaired (states_after way) m.packets → (os : List Output)
       → AllByRecursion (LocalOut (states_after way) h s host.order host.calm (k.wide h s there) (after way)) os
       → AllByRecursion (IsTrueWord (states_after way)) (sent_in os)
-  sent_true way paired [] all = tt
-  sent_true way paired (o ∷ os) all = by o all.0 (sent_true way paired os all.1)
-    where
-      by : (o : Output) → LocalOut (states_after way) h s host.order host.calm (k.wide h s there) (after way) o
-          → AllByRecursion (IsTrueWord (states_after way)) (sent_in os) → AllByRecursion (IsTrueWord (states_after way)) (sent_by o ++ sent_in os)
-      by (out.Send x) local rest =
-          let from : x.from ≡ h = local.0 ∙ (λ j. ((sound.hosts h.0 s there).head j).0) in (
-            local_true (states_after way) paired.pairs x (after way) (ap (λ (i : HostId). slice_get (states_after way) i.0) from
-                ∙ get-here h.0 (after way) s m.states there)
-                (subst (λ i. Local (states_after way) i (after way) x.to x.body) (sym from) local.1),
-            rest,
-          )
-      by (out.Reply port token reply) local rest = rest
-      by (out.Launch order bytes) local rest = rest
-      by (out.Print device order bytes) local rest = rest
-      by (out.Kill id n) local rest = rest
-      by (out.File file path bytes) local rest = rest
-      by (out.Ended id n status) local rest = rest
-      by (out.Unlaunched id n) local rest = rest
-      by (out.Again id) local rest = rest
-      by (out.Lost id) local rest = rest
-      by (out.Ack port id n) local rest = rest
+  sent_true way paired = sent_so way (IsTrueWord (states_after way)) (λ x at local. local_true (states_after way) paired.pairs x (after way) at local)
 
   -- and its low is right
-  sent_low : (way : Way m.packets h s) → IsPaired (states_after way) m.packets → (os : List Output)
+  sent_low : (way : Way m.packets h s) → (os : List Output)
       → AllByRecursion (LocalOut (states_after way) h s host.order host.calm (k.wide h s there) (after way)) os
       → AllByRecursion (IsLowWord (states_after way)) (sent_in os)
-  sent_low way paired [] all = tt
-  sent_low way paired (o ∷ os) all = by o all.0 (sent_low way paired os all.1)
-    where
-      by : (o : Output) → LocalOut (states_after way) h s host.order host.calm (k.wide h s there) (after way) o
-          → AllByRecursion (IsLowWord (states_after way)) (sent_in os) → AllByRecursion (IsLowWord (states_after way)) (sent_by o ++ sent_in os)
-      by (out.Send x) local rest =
-          let from : x.from ≡ h = local.0 ∙ (λ j. ((sound.hosts h.0 s there).head j).0) in (
-            local_low (states_after way) x (after way) (ap (λ (i : HostId). slice_get (states_after way) i.0) from
-                ∙ get-here h.0 (after way) s m.states there)
-                (subst (λ i. Local (states_after way) i (after way) x.to x.body) (sym from) local.1),
-            rest,
-          )
-      by (out.Reply port token reply) local rest = rest
-      by (out.Launch order bytes) local rest = rest
-      by (out.Print device order bytes) local rest = rest
-      by (out.Kill id n) local rest = rest
-      by (out.File file path bytes) local rest = rest
-      by (out.Ended id n status) local rest = rest
-      by (out.Unlaunched id n) local rest = rest
-      by (out.Again id) local rest = rest
-      by (out.Lost id) local rest = rest
-      by (out.Ack port id n) local rest = rest
+  sent_low way = sent_so way (IsLowWord (states_after way)) (λ x at local. local_low (states_after way) x (after way) at local)
 
   shown_all : (t : Plain) (ps : List (Pending (List ℕ))) (P : Output → Type 0) → AllByRecursion (λ p. P (shown p)) ps → AllByRecursion P (map shown ps)
   shown_all t [] P all = tt
@@ -337,7 +311,7 @@ module _ (site : List (List ℕ)) (m : Moment) (sound : IsSound site m) (k : IsP
   made_paired way suits =
       let paired = after_paired way suits in
       more_words (states_after way) m.packets (sent_in (outputs_by way)) paired (sent_true way paired (outputs_by way) (said way suits paired))
-      (sent_low way paired (outputs_by way) (said way suits paired))
+      (sent_low way (outputs_by way) (said way suits paired))
 
 abbrev pub PairedAt : Moment → Type 0
 PairedAt m = IsPaired m.states m.packets

@@ -384,7 +384,8 @@ module _ (s : Plain) (h : IsInOrder s) where
         (λ y right. or_right (not (is_hand_to peer y)) (nat_le 1 y.number) (given_some (λ p. p.next) y.number (find_peer y.peer s) (hand_is s y right).given))
         s.hands h.hands
 
-    low_sane : (peer : HostId) (n : ℕ) (hands : List Hand) → nat_le 1 n ≡ true → list_all (is_above peer 1) hands ≡ true → is_sane_low (low peer n hands) n ≡ true
+    low_sane : (peer : HostId) (n : ℕ) (hands : List Hand) → nat_le 1 n ≡ true → list_all (is_above peer 1) hands ≡ true
+        → is_sane_low (low peer n hands) n ≡ true
     low_sane peer n hands some above = and_from (nat_le 1 (low peer n hands)) (nat_le (low peer n hands) n)
         (le-leb 1 (low peer n hands) (low_above peer 1 n hands (leb-true 1 n some) above)) (le-leb (low peer n hands) n (low_next peer n hands))
 
@@ -403,7 +404,8 @@ module _ (s : Plain) (h : IsInOrder s) where
             let k = row_right_at x.id r found in
             one (offer s.me x.peer x.number (low x.peer x.number (staying_hands now s)) x.queue r)
             (offers_fine x.peer x.number (low x.peer x.number (staying_hands now s)) x.queue r site some (low_sane x.peer x.number (staying_hands now s) some
-            (part_all (is_above x.peer 1) (filter_part (λ y. not (is_silent now s y)) s.hands) (hands_above x.peer))) k.0 (ap is_running (routing_is r.state routes)) (few_hops r routes (row_is s r k.0).hop) k.1 k.2)
+            (part_all (is_above x.peer 1) (filter_part (λ y. not (is_silent now s y)) s.hands) (hands_above x.peer)))
+            k.0 (ap is_running (routing_is r.state routes)) (few_hops r routes (row_is s r k.0).hop) k.1 k.2)
 
         of : (p : Phase) → x.phase ≡ p → AreFine (repeat_phase p now s x)
         of Offered e = again (find_row x.id s) refl (implied (is_offered x.phase) (passes is_routing_row (find_row x.id s)) (hand_is s x right).stands
@@ -428,7 +430,8 @@ module _ (s : Plain) (h : IsInOrder s) where
 
     refusal_fine : (peer : HostId) (low : ℕ) (queue : List ℕ) (c : Carried) (r : Refusal) → first_refusal (offer_causes peer low queue c s) ≡ Err r
         → is_offer_refusal (refusal_number r) ≡ true
-    refusal_fine peer low queue c r e = refusal_of (λ x. is_offer_refusal (refusal_number x)) (offer_causes peer low queue c s) r (of (find_queue queue s) refl) e
+    refusal_fine peer low queue c r e = refusal_of (λ x. is_offer_refusal (refusal_number x)) (offer_causes peer low queue c s) r
+        (of (find_queue queue s) refl) e
       where
         direct : (b : Bool) → not (b && false) ≡ true
         direct true = refl
@@ -652,7 +655,8 @@ module _ (s : Plain) (h : IsInOrder s) where
 
         counter : (o : Option Peer) → (find_peer id.host s ≡ o) → nat_le 1 (stage_counter o) ≡ true
         counter None e = refl
-        counter (Some p) e = (each (nat_le 1 p.next) (nat_le 1 p.stage_next ∷ ascends_from p.floor p.closed ∷ []) (all_get is_peer_right s.peers id.host.0 p h.peers e)).1.0
+        counter (Some p) e = (each (nat_le 1 p.next) (nat_le 1 p.stage_next ∷ ascends_from p.floor p.closed ∷ [])
+            (all_get is_peer_right s.peers id.host.0 p h.peers e)).1.0
 
         sent : (ps : List Part) → list_all is_part_fine ps ≡ true → AreFine (stage_sent s.me id.host (stage_counter (find_peer id.host s)) ps)
         sent [] k = refl

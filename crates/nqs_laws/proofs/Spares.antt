@@ -21,7 +21,8 @@ use Rattle.nqs_types.specs.declared.edit.Edit.{Edit}
 use Rattle.nqs_types.specs.declared.edit.Edit.TheVariants.{Conf, Limits as LimitsOf, Access as AccessOf, Devices as DevicesOf, Rows as RowsOf}
 use Rattle.nqs_types.specs.declared.change.Change.{Change}
 use Rattle.nqs_types.specs.declared.change.Change.TheVariants.{Site, Submitted, Deleted, Doomed, Started, Ended, Unlaunched, Boot, Edited, HandOpened}
-use Rattle.nqs_types.specs.declared.change.Change.TheVariants.{HandCommitted, HandRefused, HandsSilent, HandDone, OldPromised, Promised, Accepted, Dropped, MovedLocal}
+use Rattle.nqs_types.specs.declared.change.Change.TheVariants.{HandCommitted, HandRefused, HandsSilent, HandDone, OldPromised, Promised, Accepted, Dropped}
+use Rattle.nqs_types.specs.declared.change.Change.TheVariants.{MovedLocal}
 use Rattle.nqs_types.specs.declared.change.Change.TheVariants.{RefusedLocal, HeldFar, StageGot, StageGone, FileGone}
 use Rattle.nqs_state.specs.Least.{runs_now}
 use Rattle.nqs_rules.specs.Tests.{passes, is_ready, is_routing, is_running, is_queued, is_unheld}
@@ -229,7 +230,8 @@ module _ (s : Plain) (h : IsInOrder s) (calm : IsConsistent s) (x : Request) (r 
   spares (Edited e) fit plain = edit_spares e fit
   spares (HandOpened peer number id queue since) fit plain =
       changed_other id routing_row (passes_other may_hop id (λ q k. ready_unrouted q (and_parts (is_ready q) (nat_lt q.hops 32) k).0)
-      (each (row_passes (may_hop {E = List ℕ}) id s) (passes (is_next number) (find_peer peer s) ∷ has_room_for_hand peer s ∷ passes (is_within_window peer s) (find_peer peer s) ∷ []) fit).0)
+      (each (row_passes (may_hop {E = List ℕ}) id s) (passes (is_next number) (find_peer peer s) ∷ has_room_for_hand peer s
+      ∷ passes (is_within_window peer s) (find_peer peer s) ∷ []) fit).0)
   spares (HandCommitted peer number) fit plain = absurd plain
   spares (HandRefused peer number refusal) fit plain = absurd plain
   spares (HandsSilent until ks) fit plain = absurd plain

@@ -48,7 +48,8 @@ use Rattle.nqs_rules.specs.Applied.{applied, hand_silent, hands_silent}
 use Rattle.nqs_rules.specs.Stepped.{Stepped, Pending, quiet, says, makes, ready, shown}
 use Rattle.nqs_rules.specs.Handover.{closes, was_given, send_abort, send_ready, send_done, send_inquire, opened_with, offer_causes, offer_by, on_offer}
 use Rattle.nqs_rules.specs.Handover.{ready_phase, ready_with, on_ready, refused_phase, refused_with, on_refused, on_commit, done_phase, done_with, on_done}
-use Rattle.nqs_rules.specs.Handover.{on_abort, later, is_silent, silent_hands, staying_hands, repeat_offer, repeat_phase, repeat_hand, repeated_hands, inquiries, silence}
+use Rattle.nqs_rules.specs.Handover.{on_abort, later, is_silent, silent_hands, staying_hands, repeat_offer, repeat_phase, repeat_hand, repeated_hands}
+use Rattle.nqs_rules.specs.Handover.{inquiries, silence}
 use Rattle.nqs_rules.specs.Stage.{Part, has_left, kept_parts, files_written, is_stage_to, has_stage_to, stage_sent, parts_sent, on_end, is_got, send_staged}
 use Rattle.nqs_rules.specs.Stage.{on_stage, is_earlier_stage, send_stage, due_of, on_staged, on_written, file_again, stages_from, due_outputs, goes_here}
 use Rattle.nqs_rules.specs.Stage.{first_number}
@@ -75,7 +76,8 @@ use Rattle.nqs_laws.specs.Handovers.{is_closed_for, next_of, next_for, low_for}
 use Rattle.nqs_laws.proofs.LowFacts.{is_above, low_above, low_next, low_each}
 use Rattle.nqs_laws.proofs.Hands.{silents_pass}
 use Rattle.nqs_laws.proofs.Silence.{none_silent}
-use Rattle.nqs_laws.proofs.Pair.{NoOffer, Open, Given, NoPledge, Pledged, Pair, IsTaken, IsGiven, IsOf, IsNoOffer, OfferOk, PledgeOk, OfferOf, ReadyFor, CommitOf}
+use Rattle.nqs_laws.proofs.Pair.{NoOffer, Open, Given, NoPledge, Pledged, Pair, IsTaken, IsGiven, IsOf, IsNoOffer, OfferOk, PledgeOk, OfferOf, ReadyFor}
+use Rattle.nqs_laws.proofs.Pair.{CommitOf}
 use Rattle.nqs_laws.proofs.Pair.{Ok as IsPairOk, Holds, moved, pair, given, Stays, Withdraws, Commits, Pledges, Accepts}
 use Rattle.nqs_laws.proofs.Views.{Pledging, phase_seen, offer_seen, offered, gave, pledge_seen, pledged, pair_of, has_number_key, Source, Target}
 use Rattle.nqs_laws.proofs.Turns.{to_move, from_move, low_move, sources, offers_by, silent_source, key_here, same_key, opening_window}
@@ -169,7 +171,8 @@ silents_stand until (k ∷ ks) s o calm fit b n far =
         (list_all-weaker (λ l. not_committed (find_hand l.peer l.number s)) (λ l. not_committed (find (is_hand l) (without_first (is_hand k) s.hands)))
         (λ l. still_offered s o k l) ks rest) b n others
         ∙ (let z = silent_source s o calm until k y e opens b n in
-        z.offer ∙ ap (λ d. (moved (pair (offered s b n) (gave s b n) NoPledge false) (if d then Withdraws else Stays)).offer) (not_true (has_number_key b n k) far))
+        z.offer ∙ ap (λ d. (moved (pair (offered s b n) (gave s b n) NoPledge false) (if d then Withdraws else Stays)).offer)
+        (not_true (has_number_key b n k) far))
 
 pub silents_promises : (until : ℕ) (ks : List PeerNumber) (s : Plain) → (hands_silent until ks s).promises ≡ s.promises
 silents_promises until [] s = refl
@@ -197,7 +200,8 @@ spared_pass silent q [] k none = refl
 spared_pass silent q (y ∷ ys) k none = let p = and_parts (silent y || q y) (list_all (λ y. silent y || q y) ys) k in
     by (silent y) p.0 none (spared_pass silent q ys p.1)
   where
-    by : (b : Bool) → (b || q y) ≡ true → (b || list_any silent ys) ≡ false → (list_any silent ys ≡ false → list_all q ys ≡ true) → (q y && list_all q ys) ≡ true
+    by : (b : Bool) → (b || q y) ≡ true → (b || list_any silent ys) ≡ false → (list_any silent ys ≡ false → list_all q ys ≡ true)
+        → (q y && list_all q ys) ≡ true
     by true k none rest = absurd (true≢false none)
     by false k none rest = and_from (q y) (list_all q ys) k (rest none)
 

@@ -14,7 +14,8 @@ use Rattle.nqs_types.specs.declared.request.Hand.{Hand}
 use Rattle.nqs_types.specs.declared.request.Peer.{Peer}
 use Rattle.nqs_types.specs.declared.change.Change.{Change}
 use Rattle.nqs_types.specs.declared.change.Change.TheVariants.{Site, Submitted, Deleted, Doomed, Started, Ended, Unlaunched, Boot, Edited, HandOpened}
-use Rattle.nqs_types.specs.declared.change.Change.TheVariants.{HandCommitted, HandRefused, HandsSilent, HandDone, OldPromised, Promised, Accepted, Dropped, MovedLocal}
+use Rattle.nqs_types.specs.declared.change.Change.TheVariants.{HandCommitted, HandRefused, HandsSilent, HandDone, OldPromised, Promised, Accepted, Dropped}
+use Rattle.nqs_types.specs.declared.change.Change.TheVariants.{MovedLocal}
 use Rattle.nqs_types.specs.declared.change.Change.TheVariants.{RefusedLocal, HeldFar, StageGot, StageGone, FileGone}
 use Rattle.nqs_rules.specs.Tests.{passes, same_host}
 use Rattle.nqs_rules.specs.Find.{peer_number, has_queue, has_row, find_hand, find_promise, has_promise, find_peer}
@@ -169,7 +170,8 @@ module _ (s : Plain) (h : IsInOrder s) where
   promised_target : (peer : HostId) (number low : ℕ) (queue : List ℕ) (c : Carried) (script : List ℕ) → promise_fits peer number low queue c s ≡ true
       → low ≤ number → (a : HostId) (n : ℕ)
       → Target s (promised peer number low queue c script s) a n (promised_move peer number low (sent_load queue c script) a n)
-  promised_target peer number low queue c script fit right a n = by (has_number_key a n (peer_number peer number)) refl (same_host a peer) refl (nat_lt n low) refl
+  promised_target peer number low queue c script fit right a n = by (has_number_key a n (peer_number peer number)) refl (same_host a peer) refl
+      (nat_lt n low) refl
     where
       may : (passes (is_open_number number) (find_peer peer s) ≡ true) × (not (has_promise peer number s) ≡ true)
       may =
@@ -199,7 +201,8 @@ module _ (s : Plain) (h : IsInOrder s) where
           (record { peer = peer; number = number; row = new_row c queue (s.arrivals + 1) script })
           ∙ ap (λ o. option_or o (if has_number_key a n (peer_number peer number) then
           Some (record { peer = peer; number = number; row = new_row c queue (s.arrivals + 1) script }) else None))
-          (find-filtered peer_number_eq promise_key peer_number_exact same_peer_number (λ p. not (is_outlived peer low p)) (peer_number a n) s.promises promise_keys)
+          (find-filtered peer_number_eq promise_key peer_number_exact same_peer_number (λ p. not (is_outlived peer low p))
+          (peer_number a n) s.promises promise_keys)
 
       closed_there : (d : Bool) → same_host a peer ≡ d → is_closed_for a n (promised peer number low queue c script s)
           ≡ ((d && nat_lt n low) || is_closed_for a n s)

@@ -1,5 +1,6 @@
 -- What each change of a host makes of its part of the pairs.
-use Rattle.std.proofs.Common.{◌≡◌, ℕ, ◌+◌, ◌-◌, ◌<◌, Bool, true, false, not, ◌&&◌, ◌==◌, nat_lt, nat_le, List, [], ◌∷◌, ◌++◌, map, filter, find, Option, None, Some}
+use Rattle.std.proofs.Common.{◌≡◌, ℕ, ◌+◌, ◌-◌, ◌<◌, Bool, true, false, not, ◌&&◌, ◌==◌, nat_lt, nat_le, List, [], ◌∷◌, ◌++◌, map, filter, find, Option, None}
+use Rattle.std.proofs.Common.{Some}
 use Rattle.std.proofs.Common.{true≢false, refl, sym, ap, subst, ◌∙◌, arith, if◌then◌else◌}
 use Rattle.std.proofs.lemmas.Bool.{and_parts, and_from, eqb-true, eq-eqb, ltb-true, ltb-false, lt-ltb, false_from_ne_true}
 use Rattle.std.proofs.lemmas.Option.{same_Some}
@@ -29,7 +30,8 @@ use Rattle.nqs_types.specs.declared.edit.Edit.TheVariants.{Conf, Limits as Limit
 use Rattle.nqs_types.specs.declared.change.OutPart.{OutPart}
 use Rattle.nqs_types.specs.declared.change.Change.{Change}
 use Rattle.nqs_types.specs.declared.change.Change.TheVariants.{Site, Submitted, Deleted, Doomed, Started, Ended, Unlaunched, Boot, Edited, HandOpened}
-use Rattle.nqs_types.specs.declared.change.Change.TheVariants.{HandCommitted, HandRefused, HandsSilent, HandDone, OldPromised, Promised, Accepted, Dropped, MovedLocal}
+use Rattle.nqs_types.specs.declared.change.Change.TheVariants.{HandCommitted, HandRefused, HandsSilent, HandDone, OldPromised, Promised, Accepted, Dropped}
+use Rattle.nqs_types.specs.declared.change.Change.TheVariants.{MovedLocal}
 use Rattle.nqs_types.specs.declared.change.Change.TheVariants.{RefusedLocal, HeldFar, StageGot, StageGone, FileGone}
 use Rattle.nqs_state.proofs.LeastLemmas.{found_id}
 use Rattle.nqs_rules.specs.Tests.{passes, is_routing, is_offered, same_host, last_u64}
@@ -340,7 +342,8 @@ module _ (s : Plain) (h : IsInOrder s) (calm : IsConsistent s) where
       let made : s' ≡ hand_refused (peer_number peer number) refusal (Some k.0) s = ap (λ o. hand_refused (peer_number peer number) refusal o s) k.1 in
       let row : (x : Request) → find_row x s' ≡ changed_at k.0.id (back_row k.0 refusal s) x (find_row x s) = λ x.
       row_after x (HandRefused peer number refusal) s h fit ∙ ap (λ o. refused_after o refusal s x (find_row x s)) k.1 in
-      back_source (peer_number peer number) k.0 k.1 k.2 (back_row k.0 refusal s) s' row (ap (λ (u : Plain). u.hands) made) (λ g i. ap (λ u. gave u g i) made) b n
+      back_source (peer_number peer number) k.0 k.1 k.2 (back_row k.0 refusal s) s' row (ap (λ (u : Plain). u.hands) made)
+      (λ g i. ap (λ u. gave u g i) made) b n
 
   -- a silent offer
   pub silent_source : (until : ℕ) (k : PeerNumber) (y : Hand) → find (is_hand k) s.hands ≡ Some y → is_offered y.phase ≡ true → (b : HostId) (n : ℕ)
@@ -439,7 +442,8 @@ module _ (s : Plain) (h : IsInOrder s) (calm : IsConsistent s) where
       of (Some y) e = by y e (is_offered_for id y) refl
 
   -- an offer is opened
-  module _ (peer : HostId) (number : ℕ) (id : Request) (queue : List ℕ) (since : ℕ) (fit : fits {F = List ℕ} (HandOpened peer number id queue since) s ≡ true) where
+  module _ (peer : HostId) (number : ℕ) (id : Request) (queue : List ℕ) (since : ℕ)
+      (fit : fits {F = List ℕ} (HandOpened peer number id queue since) s ≡ true) where
     opening : (row_passes (may_hop {E = List ℕ}) id s ≡ true) × ((passes (is_next number) (find_peer peer s) ≡ true)
         × ((has_room_for_hand peer s ≡ true) × ((passes (is_within_window peer s) (find_peer peer s) ≡ true) × Unit {0})))
     opening = each (row_passes (may_hop {E = List ℕ}) id s) (passes (is_next number) (find_peer peer s) ∷ has_room_for_hand peer s
@@ -481,7 +485,8 @@ module _ (s : Plain) (h : IsInOrder s) (calm : IsConsistent s) where
         new : Hand
         new = record { peer = peer; number = number; id = id; queue = queue; since = since; phase = Offered }
 
-        added : find (is_hand (peer_number b n)) (s.hands ++ record { peer = peer; number = number; id = id; queue = queue; since = since; phase = Offered } ∷ [])
+        added : find (is_hand (peer_number b n))
+            (s.hands ++ record { peer = peer; number = number; id = id; queue = queue; since = since; phase = Offered } ∷ [])
             ≡ option_or (find_hand b n s) (if has_number_key b n (peer_number peer number) then
             Some (record { peer = peer; number = number; id = id; queue = queue; since = since; phase = Offered }) else None)
         added = find-added (is_hand (peer_number b n)) s.hands (record { peer = peer; number = number; id = id; queue = queue; since = since; phase = Offered })

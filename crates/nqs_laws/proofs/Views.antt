@@ -1,5 +1,6 @@
 -- What two hosts have of one another, and what a change of one of them makes of it.
-use Rattle.std.proofs.Common.{◌≡◌, ℕ, ◌⊎◌, inl, inr, Bool, true, false, cond, not, ◌||◌, nat_lt, nat_le, List, [], ◌∷◌, map, find, slice_get, Option, None, Some, true≢false}
+use Rattle.std.proofs.Common.{◌≡◌, ℕ, ◌⊎◌, inl, inr, Bool, true, false, cond, not, ◌||◌, nat_lt, nat_le, List, [], ◌∷◌, map, find, slice_get, Option, None}
+use Rattle.std.proofs.Common.{Some, true≢false}
 use Rattle.std.proofs.Common.{zero, suc, refl, sym, ap, ◌∙◌}
 use Rattle.std.proofs.lemmas.Bool.{and_parts, eq-eqb, not-true, false_from_ne_true}
 use Rattle.std.proofs.lemmas.Option.{same_Some, none-some}

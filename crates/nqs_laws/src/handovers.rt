@@ -37,8 +37,8 @@ pub fn packets_have_given_numbers()
 {}
 
 /// A receiver's floor is below each handover of the source. The numbers that it promised, or closed
-/// above the floor, were given by the source, and are at most 64 above the floor. So it keeps at most
-/// 64 closed numbers apart, whatever comes. No promised number is closed.
+/// above the floor, were given by the source, and are at most 64 above the floor. So it keeps at
+/// most 64 closed numbers apart, whatever comes. No promised number is closed.
 pub fn taken_numbers_are_near()
     ensures { InEachPair TakenAreNear }
 {}
@@ -66,7 +66,8 @@ pub fn promises_go_when_closed()
 /// While an offer is open, none of its packets finds its request at the receiver: it is never
 /// refused because the request exists.
 pub fn open_offers_find_no_row()
-    ensures { InEachWorld (λ w. (m : Message) (number low : ℕ) (queue : List ℕ) (c : Carried) (script : List ℕ) → WasSent w m → m.body ≡ Offer number low queue c script
+    ensures { InEachWorld (λ w. (m : Message) (number low : ℕ) (queue : List ℕ) (c : Carried) (script : List ℕ) → WasSent w m
+        → m.body ≡ Offer number low queue c script
         → (s t : Plain) → IsStateOf w m.from s → IsStateOf w m.to t → is_open m.to number s ≡ true → (has_row c.id t || is_not_given_here c.id t) ≡ false) }
 {}
 

@@ -10,3 +10,4 @@ pub mod Booting
 pub mod Bare
 pub mod Carrying
 pub mod Still
+pub mod Asking

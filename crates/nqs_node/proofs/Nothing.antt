@@ -1,5 +1,5 @@
 -- What is told where no call is made.
-use Rattle.std.proofs.Common.{◌≡◌, inl, inr, ℕ, Bool, true, false, not, List, [], ◌∷◌, ◌++◌, map, IsTrue, IsErrOf, Err, None, Some, refl, sym, ap, subst}
+use Rattle.std.proofs.Common.{◌≡◌, inl, inr, ℕ, Bool, true, false, not, List, [], map, IsTrue, IsErrOf, Err, None, Some, refl, sym, ap, subst}
 use Rattle.std.proofs.Common.{arith}
 use Rattle.std.proofs.Math.Seq.{take-nil}
 use Rattle.nqs_state.specs.State.{Plain}

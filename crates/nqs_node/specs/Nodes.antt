@@ -73,3 +73,7 @@ module _ {D : Type 0} {g : disk.Ghosts D} where
   -- a read of one of its disks failed
   abbrev pub FailedToRead : (old now : Node D g) → Which → Type 0
   FailedToRead old now which = store.FailedToRead old.store now.store which
+
+  -- it asked its disks for bytes or for a length so often at most
+  abbrev pub AsksAtMost : (old now : Node D g) → (Which → ℕ) → Type 0
+  AsksAtMost old now = store.AsksAtMost old.store now.store

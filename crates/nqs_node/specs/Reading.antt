@@ -1,5 +1,5 @@
 -- Bytes that are read for outputs.
-use Rattle.std.specs.Prelude.{◌≡◌, ℕ, Bool, true, List, [], ◌∷◌}
+use Rattle.std.specs.Prelude.{◌≡◌, ℕ, ◌+◌, Bool, true, List, [], ◌∷◌, Option, None, Some}
 use Rattle.std.specs.List.{AllByRecursion, list_all}
 use Rattle.nqs_base.specs.declared.extent.Extent.{Extent}
 use Rattle.nqs_types.specs.declared.event.Output.{Output}
@@ -9,11 +9,21 @@ use Rattle.nqs_types.specs.declared.message.Body.TheVariants.{Offer, Stage}
 use Rattle.nqs_types.specs.declared.event.PlanRead.{PlanRead}
 use Rattle.nqs_rules.specs.Edits.{change_at}
 use Rattle.nqs_rules.specs.Sane.{is_short_script}
-use Rattle.nqs_rules.specs.Stepped.{with_bytes}
+use Rattle.nqs_rules.specs.Stepped.{Pending, with_bytes}
 use Rattle.nqs_spool.specs.Extents.{Has}
 use Rattle.nqs_store.specs.Live.{live}
 use Rattle.nqs_store.specs.Sound.{is_short_extent}
 use Rattle.nqs_store.specs.Told.{Host}
+
+-- how many reads the bytes of an output take
+abbrev pub reads_of : {E : Type 0} → Option E → ℕ
+reads_of None = 0
+reads_of (Some x) = 1
+
+-- how many reads of the spool what goes out takes: one for each output whose bytes are kept there
+abbrev pub reads_for : {E : Type 0} → List (Pending E) → ℕ
+reads_for [] = 0
+reads_for (p ∷ ps) = reads_of p.1 + reads_for ps
 
 -- what is read at a place goes into the output of that place
 abbrev pub read_into : (Extent → List ℕ) → List PlanRead → List Output → List Output

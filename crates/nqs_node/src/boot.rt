@@ -3,7 +3,7 @@
 //! The boot is one change like any other: what is said of it is made first, then it is kept, and
 //! then made.
 
-ghost use Rattle.std.specs.Prelude.{◌≡◌, ◌++◌, [], ℕ, List, IsTrue, IsErrOf, OnOk, OnErr, IfOk, IfErr, false, Some};
+ghost use Rattle.std.specs.Prelude.{◌≡◌, ◌++◌, [], ℕ, List, IsTrue, IsErrOf, OnOk, OnErr, IfOk, IfErr, MatchResult, false, Some};
 ghost use Rattle.std.specs.List.{filter_map};
 ghost use Rattle.std.specs.Option.{option_to_list};
 ghost use Rattle.nqs_state.specs.State.{Plain, content};
@@ -11,16 +11,19 @@ ghost use Rattle.nqs_base.specs.Want.{want};
 ghost use Rattle.nqs_base.specs.declared.extent.Extent.{Extent};
 ghost use Rattle.nqs_types.specs.declared.world.Which.{Which};
 ghost use Rattle.nqs_types.specs.declared.change.Change.TheVariants.{Boot};
-ghost use Rattle.nqs_outside.specs.History.{IsQuiet};
+ghost use Rattle.nqs_outside.specs.History.{IsQuiet, content as bytes_now};
 ghost use Rattle.nqs_rules.specs.World.{boot_output};
 ghost use Rattle.nqs_rules.specs.Plain.{map_row, map_state};
-ghost use Rattle.nqs_store.specs.Stores.{is_stopped as is_store_stopped};
-ghost use Rattle.nqs_store.specs.Disks.{histories_of, contents};
+ghost use Rattle.nqs_rules.specs.Journals.{is_second};
+ghost use Rattle.nqs_store.specs.Reads.{AsksAtMost, AsksNone, of_reading};
+ghost use Rattle.nqs_store.specs.Stores.{is_stopped as is_store_stopped, disk_of as store_disk, AsksNone as StoreAsksNone};
+ghost use Rattle.nqs_store.specs.Disks.{disk_at, histories_of, contents};
 ghost use Rattle.nqs_store.specs.Images.{IsTold};
 ghost use Rattle.nqs_store.specs.Sound.{IsSoundHost};
 ghost use Rattle.nqs_store.specs.declared.disks.Disks.{Disks};
 ghost use Rattle.nqs_node.specs.Boots.{IsLoaded, Booted, Unbooted};
 ghost use Rattle.nqs_node.specs.Makes.{Makes};
+ghost use Rattle.nqs_node.specs.Nodes.{disk_of};
 
 use crate::keep::keep;
 use crate::node::Node;
@@ -83,6 +86,7 @@ fn begin<D: Disk>(
     ensures only { (which : Which) (place : ℕ) → IsErrOf result (LoadFault.NotNqs which place) → ⊥ }
     ensures outputs { (f : Extent → List ℕ) → OnOk result (out.new.items ≡ out.old.items ++ filter_map boot_output (map_state f (content state.old)).rows) }
     ensures makes { Makes store.old store.new (content state.old) (content state.new) Boot [] LoadFault.Disk (LoadFault.Memory want) result }
+    ensures unread { StoreAsksNone store.old store.new }
 {
     match outputs_of(alloc, state) {
         Err(memory) => Err(LoadFault::Memory(memory)),
@@ -120,6 +124,9 @@ impl<D: Disk> Node<D> {
         ensures booted { (disks : Disks D) → IsLoaded disks store state → IfOk result (Booted disks) }
         ensures unbooted { (disks : Disks D) → IsLoaded disks store state
             → IfErr result (λ e. Unbooted D.Disk disks e.0 e.1) }
+        // No disk is read.
+        ensures unread { MatchResult result (λ node. AsksNone D.Disk (λ at. store_disk at store) (λ at. disk_of at node))
+            (λ e. AsksNone D.Disk (λ at. store_disk at store) (λ at. disk_at at e.1)) }
     {
         one_journal_is_active();
         match begin(alloc, &mut store, &mut state, out) {
@@ -145,6 +152,10 @@ impl<D: Disk> Node<D> {
             → OnOk result (out.new.items ≡ out.old.items ++ filter_map boot_output s.rows) }
         ensures booted { IfOk result (Booted disks) }
         ensures unbooted { IfErr result (λ e. Unbooted D.Disk disks e.0 e.1) }
+        // The root and the spool are asked once, the journal that is named twice, no other.
+        ensures asks { MatchResult result
+            (λ node. AsksAtMost D.Disk (λ at. disk_at at disks) (λ at. disk_of at node) (of_reading (is_second (bytes_now (D.history disks.root)))))
+            (λ e. AsksAtMost D.Disk (λ at. disk_at at disks) (λ at. disk_at at e.1) (of_reading (is_second (bytes_now (D.history disks.root))))) }
     {
         match Store::load(alloc, disks) {
             Err((fault, disks)) => Err((fault, disks)),

@@ -1,6 +1,7 @@
 //! A node carries out a plan.
 
-ghost use Rattle.std.specs.Prelude.{◌≡◌, false, IfOk};
+ghost use Rattle.std.specs.Prelude.{◌≡◌, false, IfOk, length};
+ghost use Rattle.nqs_store.specs.Reads.{of_spool};
 ghost use Rattle.nqs_store.specs.Sound.{IsSoundHost};
 ghost use Rattle.nqs_node.specs.Leaves.{Leaves, CarriesOut};
 ghost use Rattle.nqs_node.specs.Planned.{MayBeDone};
@@ -13,7 +14,7 @@ use nqs_types::{Output, Plan};
 use std::alloc::Global;
 
 impl<D: Disk> Node<D> {
-    ghost use Rattle.nqs_node.specs.Nodes.{content_of, is_stopped};
+    ghost use Rattle.nqs_node.specs.Nodes.{content_of, is_stopped, AsksAtMost};
 
     // Carries out a plan of this host: reads, keeps and makes it, and adds to `out` what goes out.
     // Answers whether the plan halts its host.
@@ -29,6 +30,8 @@ impl<D: Disk> Node<D> {
         ensures leaves { Leaves self.old self.new out.old out.new result }
         ensures halts { IfOk result (λ halts. halts ≡ plan.halts) }
         ensures carries { CarriesOut self.old self.new out.old.items out.new.items plan result }
+        // The spool is asked once for each read, and no other disk.
+        ensures asks { AsksAtMost self.old self.new (of_spool (length plan.reads)) }
     {
         match out.reserve(plan.outputs.len()) {
             Err(refused) => Err(StoreFault::Memory(refused.into())),

@@ -6,7 +6,7 @@ ghost use Rattle.nqs_base.specs.Want.{want};
 ghost use Rattle.nqs_rules.specs.Sane.{is_sane_change};
 ghost use Rattle.nqs_store.specs.Calls.{MayCommit};
 ghost use Rattle.nqs_store.specs.Sound.{IsSoundHost};
-ghost use Rattle.nqs_store.specs.Stores.{is_stopped};
+ghost use Rattle.nqs_store.specs.Stores.{is_stopped, AsksNone};
 ghost use Rattle.nqs_node.specs.Makes.{Makes};
 
 use nqs_base::Bytes;
@@ -32,6 +32,8 @@ pub(crate) fn keep<D: Disk>(
     requires may { MayCommit (content state.old) change puts.now }
     ensures stopped { IsErrOf result StoreFault.Stopped → IsTrue (is_stopped store.old) }
     ensures makes { Makes store.old store.new (content state.old) (content state.new) change puts.now StoreFault.Disk (StoreFault.Memory want) result }
+    // No disk is read.
+    ensures unread { AsksNone store.old store.new }
 {
     match state.make_room(&change) {
         Err(memory) => Err(StoreFault::Memory(memory)),

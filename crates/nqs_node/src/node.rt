@@ -5,18 +5,22 @@ ghost use Rattle.std.specs.Prelude.{max, nat_le, is_some};
 ghost use Rattle.std.specs.Option.{option_map};
 ghost use Rattle.nqs_state.specs.State.{Plain, content};
 ghost use Rattle.nqs_types.specs.declared.world.Which.{Which};
-ghost use Rattle.nqs_outside.specs.History.{moment};
+ghost use Rattle.nqs_types.specs.declared.world.Which.TheVariants.{Root};
+ghost use Rattle.nqs_outside.specs.History.{moment, content as bytes_now};
+ghost use Rattle.nqs_rules.specs.Journals.{is_second};
 ghost use Rattle.nqs_rules.specs.Measure.{starts_left};
 ghost use Rattle.nqs_rules.specs.Sane.{is_sane_event};
 ghost use Rattle.nqs_rules.specs.Start.{start};
 ghost use Rattle.nqs_rules.specs.Step.{step};
 ghost use Rattle.nqs_rules.specs.Stepped.{plan_of};
 ghost use Rattle.nqs_store.specs.Disks.{disk_at};
+ghost use Rattle.nqs_store.specs.Reads.{of_spool, of_reading};
 ghost use Rattle.nqs_store.specs.Sound.{IsSoundHost};
 ghost use Rattle.nqs_store.specs.Stores.{is_stopped as is_store_stopped};
 ghost use Rattle.nqs_back.specs.Back.{comebacks, comes_back};
 ghost use Rattle.nqs_node.specs.Carried.{started};
 ghost use Rattle.nqs_node.specs.Idle.{is_idle};
+ghost use Rattle.nqs_node.specs.Reading.{reads_for};
 
 use nqs_base::Memory;
 use nqs_host_laws::laws::{
@@ -48,7 +52,7 @@ pub struct Node<D: Disk> {
 
 impl<D: Disk> Node<D> {
     ghost use Rattle.nqs_node.specs.Nodes.{disk_of, history_of, fails_of, active_of, content_of, bare, is_stopped, Tells, OnlyReads};
-    ghost use Rattle.nqs_node.specs.Nodes.{FailedToRead};
+    ghost use Rattle.nqs_node.specs.Nodes.{FailedToRead, AsksAtMost};
     ghost use Rattle.nqs_node.specs.Leaves.{Leaves, TakesStep};
 
     /// Takes an event: keeps its change, makes it, and adds to `out` what goes out. Answers whether
@@ -65,6 +69,9 @@ impl<D: Disk> Node<D> {
         requires sane { IsTrue (is_sane_event (length (content_of self.old).site) event.old) }
         ensures leaves { Leaves self.old self.new out.old out.new result }
         ensures takes { TakesStep self.old self.new out.old.items out.new.items (step event.old) result }
+
+        // The spool is asked once for each output whose bytes are kept, and no other disk.
+        ensures asks { AsksAtMost self.old self.new (of_spool (reads_for (step event.old (bare self.old)).outputs)) }
 
         // It halts where its step does.
         ensures halts { IfOk result (λ halts. halts ≡ (step event.old (bare self.old)).halts) }
@@ -112,6 +119,9 @@ impl<D: Disk> Node<D> {
         requires sound { IsSoundHost (content_of self.old) }
         ensures leaves { Leaves self.old self.new out.old out.new result }
         ensures takes { TakesStep self.old self.new out.old.items out.new.items (started now) result }
+
+        // The spool is asked once for each output whose bytes are kept, and no other disk.
+        ensures asks { AsksAtMost self.old self.new (of_spool (reads_for (started now (bare self.old)).outputs)) }
 
         // It is false exactly where none may start.
         ensures more { IfOk result (λ more. more ≡ is_some (start now (content_of self.old))) }
@@ -174,6 +184,8 @@ impl<D: Disk> Node<D> {
         ensures never { IsTrue D.tells → (s : Plain) → Tells self.old s → (which : Which) (place : ℕ) → IsErrOf result (LoadFault.NotNqs which place) → ⊥ }
         ensures failed { (which : Which) → IsErrOf result (LoadFault.Disk which) → FailedToRead self.old self.new which }
         ensures reads { OnlyReads self.old self.new }
+        // The root and the spool are asked once, the journal that is named twice, no other.
+        ensures asks { AsksAtMost self.old self.new (of_reading (is_second (bytes_now (history_of self.old Root)))) }
         ensures state { content_of self.new ≡ content_of self.old }
         ensures stays { (is_stopped self.new ≡ is_stopped self.old) × (active_of self.new ≡ active_of self.old) }
         ensures tells { IsTrue D.tells → (s : Plain) → Tells self.old s → Tells self.new s }
@@ -194,6 +206,7 @@ impl<D: Fused> Node<D> {
         ensures others { (disk : Which) → disk ≢ which → (i : ℕ) → fails_of self.new disk i ≡ fails_of self.old disk i }
         ensures state { content_of self.new ≡ content_of self.old }
         ensures stopped { (is_stopped self.new ≡ is_stopped self.old) × (active_of self.new ≡ active_of self.old) }
+        ensures unread { (disk : Which) → D.reads (disk_of disk self.new) ≡ D.reads (disk_of disk self.old) }
         ensures tells { (s : Plain) → Tells self.old s → Tells self.new s }
     {
         self.store.fuse(which, calls);

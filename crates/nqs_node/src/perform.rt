@@ -1,9 +1,10 @@
 //! What is planned is read, kept and made, all over the disks of a host.
 
-ghost use Rattle.std.specs.Prelude.{◌≡◌, Option, false, IsTrue, IfSome};
+ghost use Rattle.std.specs.Prelude.{◌≡◌, Option, false, IsTrue, IfSome, length};
 ghost use Rattle.nqs_state.specs.State.{content};
 ghost use Rattle.nqs_store.specs.Sound.{IsSoundHost};
-ghost use Rattle.nqs_store.specs.Stores.{is_stopped};
+ghost use Rattle.nqs_store.specs.Reads.{of_spool};
+ghost use Rattle.nqs_store.specs.Stores.{is_stopped, AsksAtMost};
 ghost use Rattle.nqs_node.specs.Fills.{Fills};
 ghost use Rattle.nqs_node.specs.Idle.{is_idle};
 ghost use Rattle.nqs_node.specs.Makes.{Performs};
@@ -40,6 +41,8 @@ pub(crate) fn perform<D: Disk>(
     ensures rests { IsTrue (is_idle idle.new (content state.new)) }
     ensures fills { Fills store.old reads.now outputs.old.items outputs.new.items result }
     ensures performs { Performs store.old store.new (content state.old) (content state.new) change puts.now result }
+    // The spool is asked once for each read, and no other disk.
+    ensures asks { AsksAtMost store.old store.new (of_spool (length reads.now)) }
 {
     // The bytes that go out are read before the change is kept: a read that fails must leave the
     // change unmade, and once it is kept the extents that it frees may be written anew.

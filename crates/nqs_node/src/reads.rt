@@ -3,6 +3,8 @@
 ghost use Rattle.std.specs.Prelude.{◌≡◌, length};
 ghost use Rattle.nqs_rules.specs.Edits.{change_at};
 ghost use Rattle.nqs_rules.specs.Stepped.{sent_with, with_bytes};
+ghost use Rattle.nqs_store.specs.Reads.{of_spool};
+ghost use Rattle.nqs_store.specs.Stores.{AsksAtMost};
 ghost use Rattle.nqs_node.specs.Fills.{FillsOne, Fills, ReadsSpool};
 
 use nqs_base::Bytes;
@@ -53,6 +55,7 @@ fn read_one<D: Disk>(
 ) -> Result<(), StoreFault>
     ensures spool { ReadsSpool store.old store.new result }
     ensures fills { FillsOne store.old read.now outputs.old.items outputs.new.items result }
+    ensures once { AsksAtMost store.old store.new (of_spool 1) }
 {
     let mut bytes = Vec::new(alloc);
     match store.script(&read.extent, &mut bytes) {
@@ -74,6 +77,8 @@ pub(crate) fn read_all<D: Disk>(
 ) -> Result<(), StoreFault>
     ensures spool { ReadsSpool store.old store.new result }
     ensures fills { Fills store.old reads.now outputs.old.items outputs.new.items result }
+    // The spool is asked once for each, and no other disk.
+    ensures asks { AsksAtMost store.old store.new (of_spool (length reads.now)) }
 {
     for read in reads {
         read_one(alloc, store, read, outputs)?;

@@ -1,6 +1,6 @@
 -- Walks over queues, over a line and over classes, as far as they have come.
 use Rattle.std.proofs.Common.{◌≡◌, ℕ, ◌+◌, ◌-◌, ◌<◌, ◌≤◌, Bool, true, false, ◌&&◌, nat_lt, List, ◌∷◌, drop, Option, None, Some, is_some, slice_get, refl, sym}
-use Rattle.std.proofs.Common.{ap}
+use Rattle.std.proofs.Common.{ap, ◌*◌, length}
 use Rattle.std.proofs.Common.{◌∙◌, arith, true≢false}
 use Rattle.std.specs.Option.{option_map, option_or}
 use Rattle.std.proofs.lemmas.Bool.Decides.{nat_tests}
@@ -11,7 +11,8 @@ use Rattle.nqs_types.specs.declared.request.Row.{Row}
 use Rattle.nqs_index.specs.declared.index.Index.{Index}
 use Rattle.nqs_index.specs.declared.line.Entry.{Entry}
 use Rattle.nqs_index.specs.declared.classes.ClassLine.{ClassLine}
-use Rattle.nqs_order.specs.ByIndex.{running_once, fewer_run, running_in_batch, fewer_in_batch, startable, first_in, better_of, first_among}
+use Rattle.nqs_index.specs.Indexed.{classes_in}
+use Rattle.nqs_order.specs.ByIndex.{running_once, fewer_run, running_in_batch, fewer_in_batch, startable, first_in, better_of, first_among, classes_for}
 
 less_than : (m n left : ℕ) → n ≡ m → n < left → nat_lt m left ≡ true
 less_than m n left is less = grind (arith, nat_tests)
@@ -73,3 +74,10 @@ module _ {E : Type 0} (index : Index) (d : QueueDef) (now : ℕ) (s : State E) (
       → first_among index d now s any_open next (drop (i + 1) ls) ≡ first_among index d now s any_open best (drop i ls)
   among_on best next is = ap (λ b. first_among index d now s any_open b (drop (i + 1) ls)) is
       ∙ sym (ap (first_among index d now s any_open best) (drop-at ls i l at))
+
+-- the comparisons over a queue's classes are those over the classes of the queue that starts
+pub asked_of : (index : Index) (q : QueueDef) (p : ℕ) (o : Option (ℕ × QueueDef)) → Some (p, q) ≡ o → (old new : ℕ)
+    → new ≤ old + 2 * length (classes_in q.name index) → new - old ≤ 2 * length (classes_for index o)
+asked_of index q p o is old new le =
+    let b : length (classes_in q.name index) ≡ length (classes_for index o) = ap (λ o. length (classes_for index o)) is in
+    omega (arith, le, b)

@@ -1,6 +1,7 @@
 -- The scheduler's rules over an index: its counts in place of those of rows, and a queue's classes
 -- in place of all rows.
-use Rattle.std.specs.Prelude.{ℕ, ◌-◌, Bool, true, false, not, ◌&&◌, ◌||◌, ◌==◌, nat_lt, nat_le, if◌then◌else◌, List, [], ◌∷◌, length, position, slice_get}
+use Rattle.std.specs.Prelude.{ℕ, ◌-◌, ◌*◌, ◌≤◌, Bool, true, false, not, ◌&&◌, ◌||◌, ◌==◌, nat_lt, nat_le, if◌then◌else◌, List, [], ◌∷◌, length, position}
+use Rattle.std.specs.Prelude.{slice_get}
 use Rattle.std.specs.Prelude.{Option, None, Some, is_some}
 use Rattle.std.specs.List.{list_all, list_any}
 use Rattle.std.specs.Option.{option_map, option_and_then, option_or}
@@ -60,6 +61,11 @@ fewer_in_batch index limit (d ∷ ds) = nat_lt (running_in_batch index d) limit 
 -- there is a class
 abbrev pub is_filled : List ClassLine → Bool
 is_filled ls = nat_lt 0 (length ls)
+
+-- the classes of a queue, if there is one
+abbrev pub classes_for : Index → Option (ℕ × QueueDef) → List ClassLine
+classes_for index None = []
+classes_for index (Some q) = classes_in q.1.name index
 
 module _ {E : Type 0} where
   -- the global limit allows another batch request, and so do the complexes
@@ -208,6 +214,10 @@ module _ {E : Type 0} where
   abbrev pub pick_in : Index → ℕ → State E → Option (ℕ × QueueDef) → Option Choice
   pick_in index now s None = None
   pick_in index now s (Some q) = choice_of index q.1 now s (first_eligible index q.1 now s)
+
+  -- so many comparisons tell what is started next: at most two for each class of its queue
+  abbrev pub PicksBy : Index → ℕ → State E → ℕ → Type 0
+  PicksBy index now s steps = steps ≤ 2 * length (classes_for index (next_queue index now s))
 
   -- what is started next
   abbrev pub pick : Index → ℕ → State E → Option Choice

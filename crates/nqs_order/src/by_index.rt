@@ -3,18 +3,17 @@
 //! once. `specs/ByIndex.antt` has the rules over an index, which are those over the rows where it
 //! stands for them.
 
-ghost use Rattle.std.specs.Prelude.{◌≡◌, ◌<◌, None};
+ghost use Rattle.std.specs.Prelude.{◌≡◌, ◌≤◌, ◌+◌, ◌-◌, ◌*◌, length, None};
 ghost use Rattle.std.specs.List.{list_any};
 ghost use Rattle.std.specs.Option.{option_copied, option_map};
 ghost use Rattle.nqs_state.specs.State.{content};
 ghost use Rattle.nqs_rules.specs.InOrder.{IsInOrder};
 ghost use Rattle.nqs_rules.specs.Order.{pick as pick_of_rules};
-ghost use Rattle.nqs_index.specs.Indexed.{StandsForIndex};
-ghost use Rattle.nqs_index.specs.Keys.{is_before};
+ghost use Rattle.nqs_index.specs.Indexed.{StandsForIndex, classes_in};
 ghost use Rattle.nqs_order.specs.ByIndex.{is_filled, user_allows, running_once, fewer_run, running_in_batch, fewer_in_batch, complex_allows, batch_allows};
 ghost use Rattle.nqs_order.specs.ByIndex.{is_within_limits, is_free_device, free_device, has_free_device, may_serve, kind_allows, is_eligible, startable};
 ghost use Rattle.nqs_order.specs.ByIndex.{first_in, is_open, has_open, class_served, class_allows, first_of, leads, earlier, is_ahead, better_of};
-ghost use Rattle.nqs_order.specs.ByIndex.{first_among, first_eligible, has_first, has_eligible, may_start, is_candidate, next_queue, choice_for, pick};
+ghost use Rattle.nqs_order.specs.ByIndex.{first_among, first_eligible, has_first, has_eligible, may_start, is_candidate, next_queue, choice_for, choice_of, pick, PicksBy};
 
 use crate::choice::{is_greater, move_to, print_on};
 use crate::eligible::is_waiting;
@@ -24,8 +23,7 @@ use nqs_index::{Class, ClassLine, Classes, Index, Key, Line, Steps, Tally};
 use nqs_routing::{destination_in, is_reachable};
 use nqs_state::HostState;
 use nqs_types::{Choice, ComplexDef, Dest, Kind, QueueDef, RequestId, Row};
-use std::marker::Brand;
-use std::sync::ledger::{Blank, Ledger};
+use std::sync::ledger::Ledger;
 
 fn user_allows(index: &Index, queue: &QueueDef, owner: &Name) -> bool
     ensures { result ≡ user_allows index.now queue.now owner.now }
@@ -291,43 +289,32 @@ fn first_of<'a>(
     None
 }
 
-fn counted_before<L: Ledger>(key: &Key, other: &Key, blank: Blank) -> bool
-    requires name { blank.name ≡ L.name }
-    requires parts { blank.parts ≡ L.parts }
-    requires some { 0 < L.parts }
-    ensures { result ≡ is_before key.now other.now }
-{
-    let mut steps = Steps::<L>::new(blank);
-    key.compare(other, &mut steps).is_lt()
-}
-
-fn is_before(key: &Key, other: &Key) -> bool
-    ensures { result ≡ is_before key.now other.now }
-{
-    counted_before::<Brand>(key, other, Blank::new(1))
-}
-
 // Whether a row of this key comes before the best so far.
-fn leads(best: Option<(usize, &Row)>, key: &Key) -> bool
-    ensures { result ≡ leads (option_map (λ p. (p.0, p.1.now)) best.entry) key.now }
+fn leads<L: Ledger>(best: Option<(usize, &Row)>, key: &Key, steps: &mut Steps<L>) -> bool
+    ensures leads { result ≡ leads (option_map (λ p. (p.0, p.1.now)) best.entry) key.now }
+    ensures rises { steps.old ≤ steps.new }
+    ensures cost { steps.new ≤ steps.old + 1 }
 {
     match best {
-        Some((_, row)) => is_before(key, &Key::of(row)),
+        Some((_, row)) => key.compare(&Key::of(row), steps).is_lt(),
         None => true,
     }
 }
 
 // The one that comes first of the best row so far and another.
-fn earlier<'a>(
+fn earlier<'a, L: Ledger>(
     best: Option<(usize, &'a Row)>,
     other: Option<(usize, &'a Row)>,
+    steps: &mut Steps<L>,
 ) -> Option<(usize, &'a Row)>
-    ensures { option_map (λ p. (p.0, p.1.now)) result
+    ensures best { option_map (λ p. (p.0, p.1.now)) result
         ≡ earlier (option_map (λ p. (p.0, p.1.now)) best.entry) (option_map (λ p. (p.0, p.1.now)) other.entry) }
+    ensures rises { steps.old ≤ steps.new }
+    ensures cost { steps.new ≤ steps.old + 1 }
 {
     match other {
         Some((place, row)) => {
-            if leads(best, &Key::of(row)) {
+            if leads(best, &Key::of(row), steps) {
                 return Some((place, row));
             }
             best
@@ -337,17 +324,19 @@ fn earlier<'a>(
 }
 
 // Whether the first entry of a line comes before the best row so far.
-fn is_ahead(best: Option<(usize, &Row)>, line: &Line) -> bool
-    ensures { result ≡ is_ahead (option_map (λ p. (p.0, p.1.now)) best.entry) line.now }
+fn is_ahead<L: Ledger>(best: Option<(usize, &Row)>, line: &Line, steps: &mut Steps<L>) -> bool
+    ensures ahead { result ≡ is_ahead (option_map (λ p. (p.0, p.1.now)) best.entry) line.now }
+    ensures rises { steps.old ≤ steps.new }
+    ensures cost { steps.new ≤ steps.old + 1 }
 {
     if line.len() == 0 {
         return false;
     }
-    leads(best, &line.at(0).key)
+    leads(best, &line.at(0).key, steps)
 }
 
 // The best row, with one more class.
-fn better_of<'a>(
+fn better_of<'a, L: Ledger>(
     index: &Index,
     queue: &QueueDef,
     now: u64,
@@ -355,44 +344,63 @@ fn better_of<'a>(
     any_open: bool,
     best: Option<(usize, &'a Row)>,
     line: &ClassLine,
+    steps: &mut Steps<L>,
 ) -> Option<(usize, &'a Row)>
-    ensures { option_map (λ p. (p.0, p.1.now)) result
+    ensures best { option_map (λ p. (p.0, p.1.now)) result
         ≡ better_of index.now queue.now now (content state.now) any_open (option_map (λ p. (p.0, p.1.now)) best.entry) line.now }
+    ensures rises { steps.old ≤ steps.new }
+    ensures cost { steps.new ≤ steps.old + 2 }
 {
-    if is_ahead(best, &line.line) {
-        return earlier(best, first_of(index, queue, now, state, any_open, line));
+    if is_ahead(best, &line.line, steps) {
+        let first = first_of(index, queue, now, state, any_open, line);
+        return earlier(best, first, steps);
     }
     best
 }
 
 // The best row of some classes.
-fn first_among<'a>(
+fn first_among<'a, L: Ledger>(
     index: &Index,
     queue: &QueueDef,
     now: u64,
     state: &'a HostState,
     any_open: bool,
     classes: &Classes,
+    steps: &mut Steps<L>,
 ) -> Option<(usize, &'a Row)>
-    ensures { option_map (λ p. (p.0, p.1.now)) result ≡ first_among index.now queue.now now (content state.now) any_open None classes.now.items }
+    ensures best { option_map (λ p. (p.0, p.1.now)) result ≡ first_among index.now queue.now now (content state.now) any_open None classes.now.items }
+    ensures rises { steps.old ≤ steps.new }
+    ensures cost { steps.new ≤ steps.old + 2 * length classes.now.items }
 {
     let mut best: Option<(usize, &'a Row)> = None;
     let mut place = 0;
     while place < classes.len() {
-        best = better_of(index, queue, now, state, any_open, best, classes.at(place));
+        best = better_of(
+            index,
+            queue,
+            now,
+            state,
+            any_open,
+            best,
+            classes.at(place),
+            steps,
+        );
         place += 1;
     }
     best
 }
 
 // The row that starts first of those of a queue that may start, with its place.
-fn first_eligible<'a>(
+fn first_eligible<'a, L: Ledger>(
     index: &Index,
     queue: &QueueDef,
     now: u64,
     state: &'a HostState,
+    steps: &mut Steps<L>,
 ) -> Option<(usize, &'a Row)>
-    ensures { option_map (λ p. (p.0, p.1.now)) result ≡ first_eligible index.now queue.now now (content state.now) }
+    ensures row { option_map (λ p. (p.0, p.1.now)) result ≡ first_eligible index.now queue.now now (content state.now) }
+    ensures rises { steps.old ≤ steps.new }
+    ensures cost { steps.new ≤ steps.old + 2 * length (classes_in queue.now.name index.now) }
 {
     let any_open = has_open(queue, now, state);
     first_among(
@@ -402,6 +410,7 @@ fn first_eligible<'a>(
         state,
         any_open,
         index.classes(&queue.name),
+        steps,
     )
 }
 
@@ -514,21 +523,53 @@ fn choice_for(
     }
 }
 
-// What is started next, over the index.
-fn picked(index: &Index, state: &HostState, now: u64) -> Option<Choice>
-    ensures { result ≡ pick index.now now (content state.now) }
+// What is started of a queue.
+fn pick_of<L: Ledger>(
+    index: &Index,
+    queue: &QueueDef,
+    now: u64,
+    state: &HostState,
+    steps: &mut Steps<L>,
+) -> Option<Choice>
+    ensures choice { result ≡ choice_of index.now queue.now now (content state.now) (first_eligible index.now queue.now now (content state.now)) }
+    ensures rises { steps.old ≤ steps.new }
+    ensures cost { steps.new ≤ steps.old + 2 * length (classes_in queue.now.name index.now) }
 {
-    let (_, queue) = next_queue(index, now, state)?;
-    let (place, row) = first_eligible(index, queue, now, state)?;
+    let (place, row) = first_eligible(index, queue, now, state, steps)?;
     choice_for(index, queue, now, state, place, row)
 }
 
+// What is started next, over the index.
+fn picked<L: Ledger>(
+    index: &Index,
+    state: &HostState,
+    now: u64,
+    steps: &mut Steps<L>,
+) -> Option<Choice>
+    ensures choice { result ≡ pick index.now now (content state.now) }
+    ensures rises { steps.old ≤ steps.new }
+    ensures cost { PicksBy index.now now (content state.now) (steps.new - steps.old) }
+{
+    match next_queue(index, now, state) {
+        Some((_, queue)) => pick_of(index, queue, now, state, steps),
+        None => None,
+    }
+}
+
 /// What is started next at a moment, in seconds since 1970, as `pick` has it, told by an index that
-/// stands for the state's rows. It takes no memory.
-pub fn pick_by(index: &Index, state: &HostState, now: u64) -> Option<Choice>
+/// stands for the state's rows. It takes no memory, and two comparisons at most for each class of
+/// the queue that starts.
+pub fn pick_by<L: Ledger>(
+    index: &Index,
+    state: &HostState,
+    now: u64,
+    steps: &mut Steps<L>,
+) -> Option<Choice>
     requires stands { StandsForIndex index.now state.now.rows.items }
     requires order { IsInOrder (content state.now) }
-    ensures { result ≡ pick_of_rules now (content state.now) }
+    ensures choice { result ≡ pick_of_rules now (content state.now) }
+    ensures rises { steps.old ≤ steps.new }
+    ensures cost { PicksBy index.now now (content state.now) (steps.new - steps.old) }
 {
-    picked(index, state, now)
+    picked(index, state, now, steps)
 }

@@ -1,6 +1,6 @@
 //! What is started next.
 
-ghost use Rattle.std.specs.Prelude.{◌≡◌};
+ghost use Rattle.std.specs.Prelude.{◌≡◌, ◌≤◌, ◌+◌, length};
 ghost use Rattle.std.specs.Option.{option_map};
 ghost use Rattle.nqs_state.specs.State.{content};
 ghost use Rattle.nqs_rules.specs.Order.{is_greater, is_candidate, next_queue, print_on, is_local, move_to, choice_for, pick};
@@ -8,9 +8,11 @@ ghost use Rattle.nqs_rules.specs.Order.{is_greater, is_candidate, next_queue, pr
 use crate::eligible::{any_waiting, first_row, has_eligible};
 use crate::limits::is_within_limits;
 use nqs_devices::free_device;
+use nqs_index::Steps;
 use nqs_routing::destination_in;
 use nqs_state::HostState;
 use nqs_types::{Choice, Kind, QueueDef, Row};
+use std::sync::ledger::Ledger;
 
 // A queue where no row waits, or at its limits, is told by one look at the rows: the costly tests
 // of rows come last.
@@ -103,11 +105,15 @@ fn choice_for(
 
 /// What is started next at a moment, in seconds since 1970, if anything: the first eligible row of
 /// the queue of greatest priority, the first created among those, that is started, within its
-/// limits and has an eligible row.
-pub fn pick(state: &HostState, now: u64) -> Option<Choice>
-    ensures { result ≡ pick now (content state.now) }
+/// limits and has an eligible row. It looks over all rows, and each of these looks for the first of
+/// them counts as a comparison for each row.
+pub fn pick<L: Ledger>(state: &HostState, now: u64, steps: &mut Steps<L>) -> Option<Choice>
+    ensures choice { result ≡ pick now (content state.now) }
+    ensures rises { steps.old ≤ steps.new }
+    ensures cost { steps.new ≤ steps.old + length state.now.rows.items }
 {
     let (_, queue) = next_queue(state, now)?;
+    steps.add(state.rows.len());
     let (place, row) = first_row(state, queue, now)?;
     choice_for(state, queue, now, place, row)
 }

@@ -1,10 +1,10 @@
 //! The scheduler: which request of which queue starts next.
 //!
 //! `limits` has the limits of queues and complexes, `eligible` the first row of a queue that may
-//! start, `choice` the next start of the host. `by_index` has the next start of the host, told by an
-//! index (`nqs_index`) with no look at all rows, `next` the one of both that the host's rows allow,
-//! and `laws` that the index's keys stand in the order of the rows. `nqs_rules/specs/Order.antt` has
-//! the rules.
+//! start, `choice` the next start of the host. `by_index` has the next start of the host, told by
+//! an index (`nqs_index`) with no look at all rows, `next` the one of both that the host's rows
+//! allow, and `laws` that the index's keys stand in the order of the rows.
+//! `nqs_rules/specs/Order.antt` has the rules.
 #![tactic(auto)]
 
 mod by_index;

@@ -130,7 +130,26 @@ fn job(
     })
 }
 
+// The submission, which keeps the script.
 fn submission(
+    alloc: Global,
+    user: &Name,
+    words: &[Bytes],
+    script: Bytes,
+    options: &Options,
+) -> Result<Submission, Memory>
+    ensures { IfOk result (λ s. s ≡ submission user.now words.now script options.now) }
+{
+    let job = job(alloc, user, words, script.as_slice(), options)?;
+    Ok(Submission {
+        queue: options.queue,
+        job,
+        script,
+    })
+}
+
+// The submission, which keeps a copy of the script.
+fn copied(
     alloc: Global,
     user: &Name,
     words: &[Bytes],
@@ -139,13 +158,8 @@ fn submission(
 ) -> Result<Submission, Memory>
     ensures { IfOk result (λ s. s ≡ submission user.now words.now script.now options.now) }
 {
-    let job = job(alloc, user, words, script, options)?;
     let kept = Vec::from_slice(alloc, script)?;
-    Ok(Submission {
-        queue: options.queue,
-        job,
-        script: Bytes::from_vec(kept),
-    })
+    submission(alloc, user, words, Bytes::from_vec(kept), options)
 }
 
 fn read_submission(
@@ -157,6 +171,24 @@ fn read_submission(
     ensures { IfOk result (λ read. ReadsQsub user.now words.now script.now read) }
 {
     let options = match qsub_options(words, script) {
+        Ok(options) => options,
+        Err(fault) => return Ok(Err(fault)),
+    };
+    match copied(alloc, user, words, script, &options) {
+        Ok(submission) => Ok(Ok(submission)),
+        Err(memory) => Err(memory),
+    }
+}
+
+fn read_keeping(
+    alloc: Global,
+    user: &Name,
+    words: &[Bytes],
+    script: Bytes,
+) -> Result<Result<Submission, WordsFault>, Memory>
+    ensures { IfOk result (λ read. ReadsQsub user.now words.now script read) }
+{
+    let options = match qsub_options(words, script.as_slice()) {
         Ok(options) => options,
         Err(fault) => return Ok(Err(fault)),
     };
@@ -180,4 +212,17 @@ pub fn read_qsub(
     ensures answers { IfOk result (λ read. Answers user.now words.now script.now read) }
 {
     read_submission(alloc, user, words, script)
+}
+
+/// The same of a script that the submission keeps: memory is taken for the paths alone.
+pub fn read_qsub_of(
+    alloc: Global,
+    user: &Name,
+    words: &[Bytes],
+    script: Bytes,
+) -> Result<Result<Submission, WordsFault>, Memory>
+    ensures read { IfOk result (λ read. ReadsQsub user.now words.now script read) }
+    ensures answers { IfOk result (λ read. Answers user.now words.now script read) }
+{
+    read_keeping(alloc, user, words, script)
 }

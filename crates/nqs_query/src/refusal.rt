@@ -1,8 +1,9 @@
 //! The texts of refusals.
 
-ghost use Rattle.std.specs.Prelude.{◌≡◌, ◌++◌, OnOk};
+ghost use Rattle.std.specs.Prelude.{◌≡◌, ◌++◌, OnOk, OnErr};
 ghost use Rattle.nqs_rules.specs.Text.{named_text};
 ghost use Rattle.nqs_rules.specs.Transcript.{refusal_text};
+ghost use Rattle.nqs_put.specs.Puts.{IsFrontPut};
 ghost use Rattle.nqs_types.specs.declared.refusal.Refusal.TheVariants.{NoRequest, QueueInUse};
 
 use nqs_base::{Memory, Name};
@@ -12,7 +13,8 @@ use std::alloc::Global;
 
 // A text and a name.
 fn put_of(before: &[u8], name: &Name, out: &mut Vec<u8>) -> Result<(), Memory>
-    ensures { OnOk result (out.new.items ≡ out.old.items ++ (before.now ++ name.now)) }
+    ensures put { OnOk result (out.new.items ≡ out.old.items ++ (before.now ++ name.now)) }
+    ensures front { OnErr result (IsFrontPut out.old.items (before.now ++ name.now) out.new.items) }
 {
     put_text(before, out)?;
     put_text(name.as_bytes(), out)
@@ -26,7 +28,8 @@ fn put_request(
     after: &[u8],
     out: &mut Vec<u8>,
 ) -> Result<(), Memory>
-    ensures { OnOk result (out.new.items ≡ out.old.items ++ (before.now ++ named_text id.now ++ after.now)) }
+    ensures put { OnOk result (out.new.items ≡ out.old.items ++ (before.now ++ named_text id.now ++ after.now)) }
+    ensures front { OnErr result (IsFrontPut out.old.items (before.now ++ named_text id.now ++ after.now) out.new.items) }
 {
     put_text(before, out)?;
     put_named(alloc, id, out)?;
@@ -34,14 +37,16 @@ fn put_request(
 }
 
 fn put_no_request(alloc: Global, id: &Named, out: &mut Vec<u8>) -> Result<(), Memory>
-    ensures { OnOk result (out.new.items ≡ out.old.items ++ refusal_text (NoRequest id.now)) }
+    ensures put { OnOk result (out.new.items ≡ out.old.items ++ refusal_text (NoRequest id.now)) }
+    ensures front { OnErr result (IsFrontPut out.old.items (refusal_text (NoRequest id.now)) out.new.items) }
 {
     put_text(b"no request ", out)?;
     put_named(alloc, id, out)
 }
 
 fn put_in_use(alloc: Global, queue: &Name, count: u64, out: &mut Vec<u8>) -> Result<(), Memory>
-    ensures { OnOk result (out.new.items ≡ out.old.items ++ refusal_text (QueueInUse queue.now count)) }
+    ensures put { OnOk result (out.new.items ≡ out.old.items ++ refusal_text (QueueInUse queue.now count)) }
+    ensures front { OnErr result (IsFrontPut out.old.items (refusal_text (QueueInUse queue.now count)) out.new.items) }
 {
     put_about(b"queue ", queue, b" holds ", out)?;
     put_decimal(alloc, count, out)?;
@@ -50,7 +55,8 @@ fn put_in_use(alloc: Global, queue: &Name, count: u64, out: &mut Vec<u8>) -> Res
 
 /// Appends the text of a refusal, without its number.
 pub(crate) fn put_refusal(alloc: Global, refusal: &Refusal, out: &mut Vec<u8>) -> Result<(), Memory>
-    ensures { OnOk result (out.new.items ≡ out.old.items ++ refusal_text refusal.now) }
+    ensures put { OnOk result (out.new.items ≡ out.old.items ++ refusal_text refusal.now) }
+    ensures front { OnErr result (IsFrontPut out.old.items (refusal_text refusal.now) out.new.items) }
 {
     match refusal {
         Refusal::NotManager => put_text(b"not a manager", out),

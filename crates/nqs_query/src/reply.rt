@@ -1,8 +1,10 @@
 //! The text of each reply.
 
-ghost use Rattle.std.specs.Prelude.{◌≡◌, ◌++◌, ◌∷◌, [], flat_map, OnOk};
+ghost use Rattle.std.specs.Prelude.{◌≡◌, ◌++◌, ◌∷◌, [], codes, flat_map, OnOk, OnErr};
+ghost use Rattle.std.specs.Fmt.{decimal};
 ghost use Rattle.nqs_rules.specs.Text.{id_text};
 ghost use Rattle.nqs_rules.specs.Transcript.{at_place, grammar_text, words_text, in_script, words_fault_text, reply_text, lines};
+ghost use Rattle.nqs_put.specs.Puts.{IsFrontPut};
 ghost use Rattle.nqs_query.specs.Replies.{reply_line};
 ghost use Rattle.nqs_types.specs.declared.event.Reply.TheVariants as reply;
 
@@ -15,17 +17,18 @@ use std::alloc::Global;
 
 // `Bad line at PLACE: CAUSE`
 fn put_at_place(alloc: Global, place: u64, cause: &[u8], out: &mut Vec<u8>) -> Result<(), Memory>
-    ensures { OnOk result (out.new.items ≡ out.old.items ++ at_place place cause.now) }
+    ensures put { OnOk result (out.new.items ≡ out.old.items ++ at_place place cause.now) }
+    ensures front { OnErr result (IsFrontPut out.old.items (at_place place cause.now) out.new.items) }
 {
     put_text(b"Bad line at ", out)?;
     put_decimal(alloc, place, out)?;
     put_text(b": ", out)?;
-    put_text(cause, out)?;
-    Ok(())
+    put_text(cause, out)
 }
 
 fn put_grammar_fault(alloc: Global, fault: GrammarFault, out: &mut Vec<u8>) -> Result<(), Memory>
-    ensures { OnOk result (out.new.items ≡ out.old.items ++ grammar_text fault) }
+    ensures put { OnOk result (out.new.items ≡ out.old.items ++ grammar_text fault) }
+    ensures front { OnErr result (IsFrontPut out.old.items (grammar_text fault) out.new.items) }
 {
     match fault {
         GrammarFault::UnknownWord(place) => put_at_place(alloc, place, b"unknown word", out),
@@ -53,19 +56,29 @@ fn words_text(cause: WordsCause) -> &'static [u8]
     }
 }
 
-fn put_in_script(alloc: Global, line: u32, out: &mut Vec<u8>) -> Result<(), Memory>
-    ensures { OnOk result (out.new.items ≡ out.old.items ++ in_script line) }
+// ` in script line L`
+fn put_line_of(alloc: Global, line: u32, out: &mut Vec<u8>) -> Result<(), Memory>
+    ensures put { OnOk result (out.new.items ≡ out.old.items ++ (codes " in script line " ++ decimal line)) }
+    ensures front { OnErr result (IsFrontPut out.old.items (codes " in script line " ++ decimal line) out.new.items) }
 {
-    if line == 0 {
-        return put_text(b"", out);
-    }
     put_text(b" in script line ", out)?;
     put_decimal(alloc, u64::from(line), out)
 }
 
+fn put_in_script(alloc: Global, line: u32, out: &mut Vec<u8>) -> Result<(), Memory>
+    ensures put { OnOk result (out.new.items ≡ out.old.items ++ in_script line) }
+    ensures front { OnErr result (IsFrontPut out.old.items (in_script line) out.new.items) }
+{
+    if line == 0 {
+        return put_text(b"", out);
+    }
+    put_line_of(alloc, line, out)
+}
+
 // `Bad word W: CAUSE` or `Bad word W in script line L: CAUSE`
 fn put_words_fault(alloc: Global, fault: WordsFault, out: &mut Vec<u8>) -> Result<(), Memory>
-    ensures { OnOk result (out.new.items ≡ out.old.items ++ words_fault_text fault) }
+    ensures put { OnOk result (out.new.items ≡ out.old.items ++ words_fault_text fault) }
+    ensures front { OnErr result (IsFrontPut out.old.items (words_fault_text fault) out.new.items) }
 {
     put_text(b"Bad word ", out)?;
     put_decimal(alloc, u64::from(fault.word), out)?;
@@ -82,7 +95,8 @@ fn put_submitted(
     queue: &Name,
     out: &mut Vec<u8>,
 ) -> Result<(), Memory>
-    ensures { OnOk result (out.new.items ≡ out.old.items ++ reply_line site.now (reply.Submitted id queue.now)) }
+    ensures put { OnOk result (out.new.items ≡ out.old.items ++ reply_line site.now (reply.Submitted id queue.now)) }
+    ensures front { OnErr result (IsFrontPut out.old.items (reply_line site.now (reply.Submitted id queue.now)) out.new.items) }
 {
     put_text(b"Request ", out)?;
     put_id(alloc, site, id, out)?;
@@ -93,7 +107,8 @@ fn put_submitted(
 
 // `Request ID has been deleted.`
 fn put_deleted(alloc: Global, site: &[Name], id: RequestId, out: &mut Vec<u8>) -> Result<(), Memory>
-    ensures { OnOk result (out.new.items ≡ out.old.items ++ reply_line site.now (reply.Deleted id)) }
+    ensures put { OnOk result (out.new.items ≡ out.old.items ++ reply_line site.now (reply.Deleted id)) }
+    ensures front { OnErr result (IsFrontPut out.old.items (reply_line site.now (reply.Deleted id)) out.new.items) }
 {
     put_text(b"Request ", out)?;
     put_id(alloc, site, id, out)?;
@@ -107,7 +122,8 @@ fn put_signalled(
     id: RequestId,
     out: &mut Vec<u8>,
 ) -> Result<(), Memory>
-    ensures { OnOk result (out.new.items ≡ out.old.items ++ reply_line site.now (reply.Signalled id)) }
+    ensures put { OnOk result (out.new.items ≡ out.old.items ++ reply_line site.now (reply.Signalled id)) }
+    ensures front { OnErr result (IsFrontPut out.old.items (reply_line site.now (reply.Signalled id)) out.new.items) }
 {
     put_text(b"Request ", out)?;
     put_id(alloc, site, id, out)?;
@@ -116,7 +132,8 @@ fn put_signalled(
 
 // `Refused N: TEXT.`
 fn put_refused(alloc: Global, refusal: &Refusal, out: &mut Vec<u8>) -> Result<(), Memory>
-    ensures { OnOk result (out.new.items ≡ out.old.items ++ reply_line [] (reply.Refused refusal.now)) }
+    ensures put { OnOk result (out.new.items ≡ out.old.items ++ reply_line [] (reply.Refused refusal.now)) }
+    ensures front { OnErr result (IsFrontPut out.old.items (reply_line [] (reply.Refused refusal.now)) out.new.items) }
 {
     put_text(b"Refused ", out)?;
     put_decimal(alloc, u64::from(refusal_number(refusal)), out)?;
@@ -126,7 +143,8 @@ fn put_refused(alloc: Global, refusal: &Refusal, out: &mut Vec<u8>) -> Result<()
 }
 
 fn put_lines(texts: &[Bytes], out: &mut Vec<u8>) -> Result<(), Memory>
-    ensures { OnOk result (out.new.items ≡ out.old.items ++ lines texts.now) }
+    ensures put { OnOk result (out.new.items ≡ out.old.items ++ lines texts.now) }
+    ensures front { OnErr result (IsFrontPut out.old.items (lines texts.now) out.new.items) }
 {
     for i in 0..texts.len() {
         put_text(texts[i].as_slice(), out)?;
@@ -142,7 +160,8 @@ fn put_one_line(
     site: &[Name],
     out: &mut Vec<u8>,
 ) -> Result<(), Memory>
-    ensures { OnOk result (out.new.items ≡ out.old.items ++ reply_line site.now reply.now) }
+    ensures put { OnOk result (out.new.items ≡ out.old.items ++ reply_line site.now reply.now) }
+    ensures front { OnErr result (IsFrontPut out.old.items (reply_line site.now reply.now) out.new.items) }
 {
     match reply {
         Reply::Submitted { id, queue } => put_submitted(alloc, site, *id, queue, out),
@@ -164,7 +183,8 @@ pub fn print_reply(
     site: &[Name],
     out: &mut Vec<u8>,
 ) -> Result<(), Memory>
-    ensures { OnOk result (out.new.items ≡ out.old.items ++ reply_text site.now reply.now) }
+    ensures put { OnOk result (out.new.items ≡ out.old.items ++ reply_text site.now reply.now) }
+    ensures front { OnErr result (IsFrontPut out.old.items (reply_text site.now reply.now) out.new.items) }
 {
     if let Reply::Lines(texts) = reply {
         return put_lines(texts.as_slice(), out);

@@ -23,7 +23,8 @@ module _ (peer : HostId) (next : ℕ) where
   low_found n (h ∷ hs) = by (is_hand_to peer h) (low_found (n + 1) hs)
     where
       by : (b : Bool) → low_with next (best_from (is_hand_to peer) is_before (n + 1) hs) ≡ low peer next hs
-          → low_with next (if b then better is_before (n, h) (best_from (is_hand_to peer) is_before (n + 1) hs) else best_from (is_hand_to peer) is_before (n + 1) hs)
+          → low_with next (if b then better is_before (n, h) (best_from (is_hand_to peer) is_before (n + 1) hs)
+          else best_from (is_hand_to peer) is_before (n + 1) hs)
           ≡ (if b then min h.number (low peer next hs) else low peer next hs)
       by true rest = better_low (n, h) (best_from (is_hand_to peer) is_before (n + 1) hs) ∙ ap (min h.number) rest
       by false rest = rest

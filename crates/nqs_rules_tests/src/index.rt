@@ -2,6 +2,7 @@
 //! the order in which they came in, without one that is held, and without one that left; a line for
 //! each class; and that the requests of a host keep such an index, whatever is done to them.
 
+use crate::counted::{enter, leave};
 use nqs_base::{Memory, Name};
 use nqs_builders::{add_row, row};
 use nqs_index::{Index, Line, Seat};
@@ -55,10 +56,10 @@ fn numbers(index: &Index) -> [u32; 4] {
 
 // Priorities 5, 63 and 63 with arrivals 1, 3 and 2, and one that is held.
 fn four_enter(alloc: Global, index: &mut Index) -> Result<(), Memory> {
-    index.enter(&seat(alloc, 5, 1, Hold::No))?;
-    index.enter(&seat(alloc, 63, 3, Hold::No))?;
-    index.enter(&seat(alloc, 63, 2, Hold::No))?;
-    index.enter(&seat(alloc, 63, 4, Hold::User))
+    enter(index, &seat(alloc, 5, 1, Hold::No))?;
+    enter(index, &seat(alloc, 63, 3, Hold::No))?;
+    enter(index, &seat(alloc, 63, 2, Hold::No))?;
+    enter(index, &seat(alloc, 63, 4, Hold::User))
 }
 
 #[test]
@@ -67,7 +68,7 @@ fn greater_priorities_first_and_then_earlier_arrivals(rt: HostRuntime) {
     let mut index = Index::empty(alloc);
     let entered = four_enter(alloc, &mut index).is_ok();
     let whole = numbers(&index);
-    index.leave(&seat(alloc, 63, 3, Hold::No));
+    leave(&mut index, &seat(alloc, 63, 3, Hold::No));
     let left = numbers(&index);
     drop(index);
     assert_eq!(rt; (entered, whole, left), (true, [2, 3, 1, 0], [2, 1, 0, 0]));
@@ -82,9 +83,9 @@ fn earlier(alloc: Global, arrival: u32, earliest: u64) -> Seat {
 
 // Two of one class around one of another.
 fn three_enter(alloc: Global, index: &mut Index) -> Result<(), Memory> {
-    index.enter(&earlier(alloc, 1, 7))?;
-    index.enter(&earlier(alloc, 2, 8))?;
-    index.enter(&earlier(alloc, 3, 7))
+    enter(index, &earlier(alloc, 1, 7))?;
+    enter(index, &earlier(alloc, 2, 8))?;
+    enter(index, &earlier(alloc, 3, 7))
 }
 
 // How many requests wait in each of the first two classes of `jobs`.
@@ -105,9 +106,9 @@ fn a_class_lasts_as_long_as_a_request_of_it_waits(rt: HostRuntime) {
     let mut index = Index::empty(alloc);
     let entered = three_enter(alloc, &mut index).is_ok();
     let whole = lengths(&index);
-    index.leave(&earlier(alloc, 1, 7));
+    leave(&mut index, &earlier(alloc, 1, 7));
     let fewer = lengths(&index);
-    index.leave(&earlier(alloc, 3, 7));
+    leave(&mut index, &earlier(alloc, 3, 7));
     let left = lengths(&index);
     drop(index);
     assert_eq!(rt;

@@ -8,6 +8,8 @@ mod access;
 #[cfg(test)]
 mod conf;
 #[cfg(test)]
+mod counted;
+#[cfg(test)]
 mod index;
 #[cfg(test)]
 mod limits;

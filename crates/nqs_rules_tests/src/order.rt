@@ -1,10 +1,11 @@
 //! Which request starts next: by priority and arrival, and beside one that is held and one that is
 //! on its way.
 
+use crate::counted::pick;
 use nqs_base::{Memory, Name};
 use nqs_base_tables::Table;
 use nqs_builders::{add, add_row, host, queue, row};
-use nqs_order::{first_eligible, pick, within_limits};
+use nqs_order::{first_eligible, within_limits};
 use nqs_state::{HostState, Rows};
 use nqs_types::{Choice, Hold, QueueDef, Row, RowState};
 use std::alloc::Global;

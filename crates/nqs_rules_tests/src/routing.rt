@@ -2,14 +2,12 @@
 //! numbers.
 
 use nqs_base::Memory;
-use nqs_builders::{add, host, peer};
+use nqs_builders::{add, hand, host, peer};
 use nqs_routing::{is_reachable, low};
 use nqs_state::HostState;
-use nqs_types::{Hand, HostId, Phase, RequestId, batch};
+use nqs_types::{HostId, Phase};
 use std::alloc::Global;
 use std::rt::HostRuntime;
-
-const ALPHA: HostId = HostId(0);
 
 const BETA: HostId = HostId(1);
 
@@ -26,21 +24,11 @@ static CASES: [(&[u64], u64, u64, bool); 8] = [
 ];
 
 // Every other one is committed.
-fn hand(number: u64) -> Hand {
-    Hand {
-        peer: BETA,
-        number,
-        id: RequestId {
-            seq: 1,
-            host: ALPHA,
-        },
-        queue: batch(),
-        since: 0,
-        phase: if number % 2 == 0 {
-            Phase::Offered
-        } else {
-            Phase::Committed
-        },
+fn phase(number: u64) -> Phase {
+    if number % 2 == 0 {
+        Phase::Offered
+    } else {
+        Phase::Committed
     }
 }
 
@@ -48,7 +36,7 @@ fn fill(alloc: Global, state: &mut HostState, numbers: &[u64], next: u64) -> Res
     state.peers.push(peer(alloc, 1, 1))?;
     state.peers.push(peer(alloc, next, 1))?;
     for number in numbers {
-        add(&mut state.hands, hand(*number))?;
+        add(&mut state.hands, hand(*number, 1, 0, phase(*number)))?;
     }
     Ok(())
 }

@@ -1,5 +1,6 @@
 -- What was sealed opens under its own key, and nothing else does.
-use Rattle.std.proofs.Common.{◌≡◌, ◌≢◌, ◌-◌, ◌<◌, ◌++◌, ℕ, List, [], ◌∷◌, length, take, drop, ap, sym, refl, ◌∙◌, arith, Bool, true, false, nat_le, ◌&&◌, bytes_eq, length-append, take-append-drop}
+use Rattle.std.proofs.Common.{◌≡◌, ◌≢◌, ◌-◌, ◌<◌, ◌++◌, ℕ, List, [], ◌∷◌, length, take, drop, ap, sym, refl, ◌∙◌, arith, Bool, true, false, nat_le, ◌&&◌}
+use Rattle.std.proofs.Common.{bytes_eq, length-append, take-append-drop}
 use Rattle.std.proofs.lemmas.Slice.Eq.{bytes_eq-Decides}
 use Rattle.std.proofs.lemmas.Bool.{and_parts}
 use Rattle.std.proofs.lemmas.Bool.Decides.{nat_tests}

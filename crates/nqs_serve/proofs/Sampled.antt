@@ -31,17 +31,17 @@ reads_older : message_of (done_by 1 1) ≡ Err Version
 unfolding message_of u8_at number_at
 reads_older = refl
 
-pub is_event : (now : ℕ) → sorted (one_of_two 0) now (done_from 1) ≡ Event (Arrived now (said_by 1))
-is_event now = ap (read_sorted (one_of_two 0) now) reads_one
+pub is_event : sorted (one_of_two 0) (done_from 1) ≡ Event (Arrived 0 (said_by 1))
+is_event = ap (read_sorted (one_of_two 0)) reads_one
 
-pub is_elsewhere : (now : ℕ) → sorted (one_of_two 1) now (done_from 1) ≡ Ignored NotHere
-is_elsewhere now = ap (read_sorted (one_of_two 1) now) reads_one
+pub is_elsewhere : sorted (one_of_two 1) (done_from 1) ≡ Ignored NotHere
+is_elsewhere = ap (read_sorted (one_of_two 1)) reads_one
 
-pub is_stranger : (now : ℕ) → sorted (one_of_two 0) now (done_from 5) ≡ Ignored Stranger
-is_stranger now = ap (read_sorted (one_of_two 0) now) reads_five
+pub is_stranger : sorted (one_of_two 0) (done_from 5) ≡ Ignored Stranger
+is_stranger = ap (read_sorted (one_of_two 0)) reads_five
 
-pub is_cut : (now : ℕ) → sorted (one_of_two 0) now (2 ∷ []) ≡ Ignored (Unread (Short 1))
-is_cut now = ap (read_sorted (one_of_two 0) now) one_byte
+pub is_cut : sorted (one_of_two 0) (2 ∷ []) ≡ Ignored (Unread (Short 1))
+is_cut = ap (read_sorted (one_of_two 0)) one_byte
 
-pub is_older : (now : ℕ) → sorted (one_of_two 0) now (done_by 1 1) ≡ Ignored (Unread Version)
-is_older now = ap (read_sorted (one_of_two 0) now) reads_older
+pub is_older : sorted (one_of_two 0) (done_by 1 1) ≡ Ignored (Unread Version)
+is_older = ap (read_sorted (one_of_two 0)) reads_older

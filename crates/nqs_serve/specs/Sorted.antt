@@ -1,6 +1,5 @@
 -- How a datagram is sorted: as an event, or as ignored, by the first cause.
 use Rattle.std.specs.Prelude.{◌≡◌, ◌↔◌, ℕ, ◌<◌, ◌≤◌, ◌&&◌, Bool, true, false, IsTrue, if◌then◌else◌, List, length, Ok, Err}
-use Rattle.std.specs.Option.{option_map}
 use Rattle.std.specs.declared.option.Option.{Option}
 use Rattle.std.specs.declared.option.Option.TheVariants.{None, Some}
 use Rattle.std.specs.declared.result.Result.{Result}
@@ -13,7 +12,7 @@ use Rattle.nqs_rules.specs.Sane.{is_of_site}
 use Rattle.nqs_outside.specs.Asked.{came}
 use Rattle.nqs_packets.specs.Reading.{message_of, is_fault_of_memory}
 use Rattle.nqs_packets.specs.declared.fault.PacketFault.{PacketFault}
-use Rattle.nqs_serve.specs.Events.{Here, is_whole, are_of_site, event_of, event_in, at_moment}
+use Rattle.nqs_serve.specs.Events.{Here, is_whole, are_of_site, event_of, event_in}
 use Rattle.nqs_serve.specs.declared.sort.IgnoreCause.TheVariants.{TooLong, Unread, NotHere, Stranger, NotAsked}
 use Rattle.nqs_serve.specs.declared.sort.Sorted.{Sorted}
 use Rattle.nqs_serve.specs.declared.sort.Sorted.TheVariants.{Event, Ignored}
@@ -36,36 +35,35 @@ is_said_back _ = false
 abbrev pub Reads : List ℕ → (Message → Type 0) → Type 0
 Reads bytes P = (length bytes ≤ 49152) × ((m : Message) × (message_of bytes ≡ Ok m) × P m)
 
--- How a datagram is sorted at a moment: the causes in order, each where none before it holds, and
--- else the event of its message.
-abbrev pub IsSorted : Here → ℕ → List ℕ → Sorted → Type 0
-IsSorted here now bytes (Ignored TooLong) = 49152 < length bytes
-IsSorted here now bytes (Ignored (Unread fault)) = (length bytes ≤ 49152) × (message_of bytes ≡ Err fault)
-IsSorted here now bytes (Ignored NotHere) = Reads bytes (λ m. is_here here m ≡ false)
-IsSorted here now bytes (Ignored Stranger) = Reads bytes (λ m. IsTrue (is_here here m) × (is_known here m ≡ false))
-IsSorted here now bytes (Ignored NotAsked) = Reads bytes (λ m. IsTrue (is_here here m) × IsTrue (is_known here m) × IsTrue (is_said_back m.body))
-IsSorted here now bytes (Event e) =
-    Reads bytes (λ m. IsTrue (is_here here m) × IsTrue (is_known here m) × (option_map (at_moment now) (event_of m) ≡ Some e))
+-- How a datagram is sorted: the causes in order, each where none before it holds, and else the event
+-- of its message.
+abbrev pub IsSorted : Here → List ℕ → Sorted → Type 0
+IsSorted here bytes (Ignored TooLong) = 49152 < length bytes
+IsSorted here bytes (Ignored (Unread fault)) = (length bytes ≤ 49152) × (message_of bytes ≡ Err fault)
+IsSorted here bytes (Ignored NotHere) = Reads bytes (λ m. is_here here m ≡ false)
+IsSorted here bytes (Ignored Stranger) = Reads bytes (λ m. IsTrue (is_here here m) × (is_known here m ≡ false))
+IsSorted here bytes (Ignored NotAsked) = Reads bytes (λ m. IsTrue (is_here here m) × IsTrue (is_known here m) × IsTrue (is_said_back m.body))
+IsSorted here bytes (Event e) = Reads bytes (λ m. IsTrue (is_here here m) × IsTrue (is_known here m) × (event_of m ≡ Some e))
 
 -- the same as a function of the bytes
 
 -- by the event of a message
-abbrev pub event_sorted : ℕ → Option Happening → Sorted
-event_sorted now None = Ignored NotAsked
-event_sorted now (Some e) = Event (at_moment now e)
+abbrev pub event_sorted : Option Happening → Sorted
+event_sorted None = Ignored NotAsked
+event_sorted (Some e) = Event e
 
 -- by a message
-abbrev pub message_sorted : Here → ℕ → Message → Sorted
-message_sorted here now m = if is_here here m then (if is_known here m then event_sorted now (event_of m) else Ignored Stranger) else Ignored NotHere
+abbrev pub message_sorted : Here → Message → Sorted
+message_sorted here m = if is_here here m then (if is_known here m then event_sorted (event_of m) else Ignored Stranger) else Ignored NotHere
 
 -- by what was read
-abbrev pub read_sorted : Here → ℕ → Result Message PacketFault → Sorted
-read_sorted here now (Ok m) = message_sorted here now m
-read_sorted here now (Err fault) = Ignored (Unread fault)
+abbrev pub read_sorted : Here → Result Message PacketFault → Sorted
+read_sorted here (Ok m) = message_sorted here m
+read_sorted here (Err fault) = Ignored (Unread fault)
 
 -- by its bytes
-abbrev pub sorted : Here → ℕ → List ℕ → Sorted
-sorted here now bytes = if is_whole bytes then read_sorted here now (message_of bytes) else Ignored TooLong
+abbrev pub sorted : Here → List ℕ → Sorted
+sorted here bytes = if is_whole bytes then read_sorted here (message_of bytes) else Ignored TooLong
 
 -- ignored for this fault, which is none of memory
 abbrev pub HasFault : PacketFault → Sorted → Type 0
@@ -83,8 +81,8 @@ IfEvent (Ignored cause) P = Unit {0}
 
 -- Each datagram is sorted in one way, and in no other.
 abbrev pub SortedOneWay : Type 0
-SortedOneWay = (here : Here) (now : ℕ) (bytes : List ℕ) (s : Sorted) → IsSorted here now bytes s ↔ s ≡ sorted here now bytes
+SortedOneWay = (here : Here) (bytes : List ℕ) (s : Sorted) → IsSorted here bytes s ↔ s ≡ sorted here bytes
 
--- It is an event exactly where the daemon takes one of it, and just that one, at the moment.
+-- It is an event exactly where the daemon takes one of it, and just that one.
 abbrev pub EventsAreTaken : Type 0
-EventsAreTaken = (here : Here) (now : ℕ) (bytes : List ℕ) → taken_of (sorted here now bytes) ≡ option_map (at_moment now) (event_in here (came bytes))
+EventsAreTaken = (here : Here) (bytes : List ℕ) → taken_of (sorted here bytes) ≡ event_in here (came bytes)

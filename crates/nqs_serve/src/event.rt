@@ -4,7 +4,7 @@ ghost use Rattle.std.specs.Prelude.{◌≡◌, [], get_or, IfOk};
 ghost use Rattle.nqs_serve.specs.Events.{command_of, are_of_site, event_of, at_moment};
 
 use nqs_base::{Bytes, Memory, Name};
-use nqs_language_acts::{qdel_command, qmgr_command, qstat_command, qsub_command};
+use nqs_language_acts::{qdel_command, qmgr_command, qstat_command, qsub_command_of};
 use nqs_types::{Body, Command, Event, Message, RequestId, Tool};
 use std::alloc::Global;
 
@@ -18,18 +18,18 @@ fn line_in(words: &[Bytes]) -> &[u8]
     }
 }
 
-// What is asked for by a tool's words.
+// What is asked for by a tool's words. A submission keeps the script.
 fn command_of(
     alloc: Global,
     user: &Name,
     tool: Tool,
     words: &[Bytes],
-    script: &[u8],
+    script: Bytes,
 ) -> Result<Command, Memory>
-    ensures { IfOk result (λ command. command ≡ command_of user.now tool words.now script.now) }
+    ensures { IfOk result (λ command. command ≡ command_of user.now tool words.now script) }
 {
     match tool {
-        Tool::Qsub => qsub_command(alloc, user, words, script),
+        Tool::Qsub => qsub_command_of(alloc, user, words, script),
         Tool::Qstat => qstat_command(alloc, words),
         Tool::Qdel => Ok(qdel_command(words)),
         Tool::Qmgr => Ok(qmgr_command(line_in(words))),
@@ -93,7 +93,7 @@ pub(crate) fn event_of(alloc: Global, message: Message) -> Result<Option<Event>,
             script,
         } => {
             let words = words.as_slice();
-            let command = command_of(alloc, &user, tool, words, script.as_slice())?;
+            let command = command_of(alloc, &user, tool, words, script)?;
             Ok(Some(asked(port, token, user, command)))
         }
         Body::Ended {

@@ -1,6 +1,6 @@
 //! Laws of runs of the daemon, and of how it sorts what comes. A caller cites one by calling it.
 
-ghost use Rattle.std.specs.Prelude.{◌≡◌, ℕ, [], ◌∷◌};
+ghost use Rattle.std.specs.Prelude.{◌≡◌, [], ◌∷◌};
 ghost use Rattle.nqs_types.specs.declared.event.Event.TheVariants.{Arrived};
 ghost use Rattle.nqs_types.specs.declared.message.Body.TheVariants.{Done};
 ghost use Rattle.nqs_packets.specs.declared.fault.PacketFault.TheVariants.{Short, Version};
@@ -31,10 +31,10 @@ pub fn sorted_events_are_taken()
 /// that the site doesn't have it is a stranger's; its first byte alone is short. That of an older
 /// host, in version 1, is none.
 pub fn a_datagram_by_hand()
-    ensures event { (now : ℕ) → sorted (one_of_two 0) now (done_from 1)
-        ≡ Event (Arrived now (record { from = record { 0 = 1 }; to = record { 0 = 0 }; body = Done 1 })) }
-    ensures elsewhere { (now : ℕ) → sorted (one_of_two 1) now (done_from 1) ≡ Ignored NotHere }
-    ensures stranger { (now : ℕ) → sorted (one_of_two 0) now (done_from 5) ≡ Ignored Stranger }
-    ensures cut { (now : ℕ) → sorted (one_of_two 0) now (2 ∷ []) ≡ Ignored (Unread (Short 1)) }
-    ensures older { (now : ℕ) → sorted (one_of_two 0) now (done_by 1 1) ≡ Ignored (Unread Version) }
+    ensures event { sorted (one_of_two 0) (done_from 1)
+        ≡ Event (Arrived 0 (record { from = record { 0 = 1 }; to = record { 0 = 0 }; body = Done 1 })) }
+    ensures elsewhere { sorted (one_of_two 1) (done_from 1) ≡ Ignored NotHere }
+    ensures stranger { sorted (one_of_two 0) (done_from 5) ≡ Ignored Stranger }
+    ensures cut { sorted (one_of_two 0) (2 ∷ []) ≡ Ignored (Unread (Short 1)) }
+    ensures older { sorted (one_of_two 0) (done_by 1 1) ≡ Ignored (Unread Version) }
 {}

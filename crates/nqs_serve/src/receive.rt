@@ -3,7 +3,7 @@
 ghost use Rattle.std.specs.Prelude.{◌≡◌, ◌<◌, ◌∷◌, [], IfOk, IsErrOf, IsTrue, length};
 ghost use Rattle.nqs_base.specs.Want.{want};
 ghost use Rattle.nqs_outside.specs.Causes.{Rose};
-ghost use Rattle.nqs_outside.specs.Asked.{Arrival, came, inbound};
+ghost use Rattle.nqs_outside.specs.Asked.{Arrival, inbound};
 ghost use Rattle.nqs_rules.specs.Sane.{is_sane_event};
 ghost use Rattle.nqs_serve.specs.Events.{Here, event_in};
 ghost use Rattle.nqs_serve.specs.Sends.{is_right_event};
@@ -23,16 +23,6 @@ pub(crate) enum Missed {
     /// A call of the wire failed.
     Wire,
     Memory(Memory),
-}
-
-// What a datagram is, with the moment 0 where it is an event.
-#[tactic(auto, using(crate::proofs::Sorting::at_zero))]
-fn sorted_in(alloc: Global, me: HostId, site: &[Name], bytes: &[u8]) -> Result<Sorted, Memory>
-    ensures event { IfOk result (λ s. taken_of s ≡ event_in (record { me = me; site = site.now }) (came bytes.now)) }
-    ensures sane { IfOk result (λ s. IfEvent s (λ e. IsTrue (is_sane_event (length site.now) e))) }
-    ensures right { IfOk result (λ s. IfEvent s (λ e. IsTrue (is_right_event (length site.now) e))) }
-{
-    sort_datagram(alloc, site, me, 0, bytes)
 }
 
 /// What a receive brought: an event with the moment 0, or what is ignored. The buffer has room for
@@ -61,7 +51,7 @@ pub(crate) fn receive<X: Outside>(
     };
     match received {
         Received::Quiet => Ok(Sorted::Event(Event::Tick { now: 0 })),
-        Received::Datagram(count) => match sorted_in(alloc, me, site, &buf[..count]) {
+        Received::Datagram(count) => match sort_datagram(alloc, site, me, &buf[..count]) {
             Ok(sorted) => Ok(sorted),
             Err(memory) => Err(Missed::Memory(memory)),
         },

@@ -1,16 +1,15 @@
 //! How a datagram is sorted: as an event, or as ignored, by the first cause.
 
 ghost use Rattle.std.specs.Prelude.{◌≡◌, ℕ, List, false, IfOk, IsTrue, length};
-ghost use Rattle.std.specs.Option.{option_map};
 ghost use Rattle.nqs_rules.specs.Sane.{is_sane_event};
 ghost use Rattle.nqs_outside.specs.Asked.{came};
 ghost use Rattle.nqs_packets.specs.Reading.{is_fault_of_memory};
 ghost use Rattle.nqs_packets.specs.declared.fault.PacketFault.{PacketFault as Fault};
-ghost use Rattle.nqs_serve.specs.Events.{Here, event_of, event_in, at_moment};
+ghost use Rattle.nqs_serve.specs.Events.{Here, event_of, event_in};
 ghost use Rattle.nqs_serve.specs.Sends.{is_right_event};
 ghost use Rattle.nqs_serve.specs.Sorted.{is_here, is_known, event_sorted, message_sorted, HasFault, IsSorted, taken_of, IfEvent};
 
-use crate::event::{are_of_site, event_of, set_moment};
+use crate::event::{are_of_site, event_of};
 use nqs_base::{Memory, Name};
 use nqs_language_acts::laws::{edits_are_sane, lists_and_deletions_are_sane, submissions_are_sane};
 use nqs_packets::{PacketFault, read_message};
@@ -83,22 +82,14 @@ fn is_known(site: &[Name], message: &Message) -> bool
     are_of_site(site.len(), &message.body)
 }
 
-fn event_at(event: Event, now: u64) -> Sorted
-    ensures { result ≡ Sorted.Event (at_moment now event) }
-{
-    let mut event = event;
-    set_moment(&mut event, now);
-    Sorted::Event(event)
-}
-
 // By the event of a message that is for this host.
-fn sort_event(alloc: Global, now: u64, message: Message) -> Result<Sorted, Memory>
-    ensures { IfOk result (λ s. s ≡ event_sorted now (event_of message)) }
+fn sort_event(alloc: Global, message: Message) -> Result<Sorted, Memory>
+    ensures { IfOk result (λ s. s ≡ event_sorted (event_of message)) }
 {
     match event_of(alloc, message) {
         Err(memory) => Err(memory),
         Ok(None) => Ok(ignored(IgnoreCause::NotAsked)),
-        Ok(Some(event)) => Ok(event_at(event, now)),
+        Ok(Some(event)) => Ok(Sorted::Event(event)),
     }
 }
 
@@ -107,33 +98,31 @@ fn sort_message(
     alloc: Global,
     site: &[Name],
     me: HostId,
-    now: u64,
     message: Message,
 ) -> Result<Sorted, Memory>
-    ensures { IfOk result (λ s. s ≡ message_sorted (record { me = me; site = site.now }) now message) }
+    ensures { IfOk result (λ s. s ≡ message_sorted (record { me = me; site = site.now }) message) }
 {
     if !is_here(me, &message) {
         Ok(ignored(IgnoreCause::NotHere))
     } else if !is_known(site, &message) {
         Ok(ignored(IgnoreCause::Stranger))
     } else {
-        sort_event(alloc, now, message)
+        sort_event(alloc, message)
     }
 }
 
-/// Sorts a datagram that this host of a site got at a moment. The bytes may be any. An ask whose
-/// words can't be read is an event too, which is answered.
+/// Sorts a datagram that this host of a site got. The bytes may be any. An event has the moment 0,
+/// and gets its own when it is taken. An ask whose words can't be read is one too, and is answered.
 pub fn sort_datagram(
     alloc: Global,
     site: &[Name],
     me: HostId,
-    now: u64,
     bytes: &[u8],
 ) -> Result<Sorted, Memory>
-    ensures sorted { IfOk result (IsSorted (record { me = me; site = site.now }) now bytes.now) }
+    ensures sorted { IfOk result (IsSorted (record { me = me; site = site.now }) bytes.now) }
     ensures memory { IfOk result (λ s. (fault : Fault) → s ≡ Sorted.Ignored (IgnoreCause.Unread fault) → is_fault_of_memory fault ≡ false) }
     // It is an event exactly where the daemon takes one of it, and just that one.
-    ensures taken { IfOk result (λ s. taken_of s ≡ option_map (at_moment now) (event_in (record { me = me; site = site.now }) (came bytes.now))) }
+    ensures taken { IfOk result (λ s. taken_of s ≡ event_in (record { me = me; site = site.now }) (came bytes.now)) }
     ensures sane { IfOk result (λ s. IfEvent s (λ e. IsTrue (is_sane_event (length site.now) e))) }
     ensures right { IfOk result (λ s. IfEvent s (λ e. IsTrue (is_right_event (length site.now) e))) }
 {
@@ -145,6 +134,6 @@ pub fn sort_datagram(
     lists_and_deletions_are_sane();
     match read_message(alloc, bytes) {
         Err(fault) => unread(fault),
-        Ok(message) => sort_message(alloc, site, me, now, message),
+        Ok(message) => sort_message(alloc, site, me, message),
     }
 }

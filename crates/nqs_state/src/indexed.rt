@@ -1,6 +1,6 @@
 //! The index that a host's requests keep, or the want of memory for it.
 
-ghost use Rattle.std.specs.Prelude.{◌≡◌, ◌<◌, ◌^◌, List, length, map, true, OnOk, OnErr};
+ghost use Rattle.std.specs.Prelude.{◌≡◌, ◌<◌, ◌^◌, List, length, map, true, IfOk, OnOk, OnErr};
 ghost use Rattle.nqs_types.specs.declared.request.Row.{Row};
 ghost use Rattle.nqs_base.specs.declared.extent.Extent.{Extent};
 ghost use Rattle.nqs_index.specs.declared.seat.Seat.{Seat as SeatValue};
@@ -10,8 +10,59 @@ ghost use Rattle.nqs_state.specs.Kept.{IfThere, is_kept, is_lacking, is_there};
 
 use nqs_base::Memory;
 use nqs_base_tables::Table;
-use nqs_index::{Index, Seat};
+use nqs_index::{Index, Seat, Steps};
 use nqs_types::{RequestId, Row};
+use std::marker::Brand;
+use std::sync::ledger::{Blank, Ledger};
+
+fn counted_build<L: Ledger>(table: &Table<RequestId, Row>, blank: Blank) -> Result<Index, Memory>
+    requires name { blank.name ≡ L.name }
+    requires parts { blank.parts ≡ L.parts }
+    requires some { 0 < L.parts }
+    ensures { IfOk result (λ i. StandsForIndex i table.now.items) }
+{
+    let mut steps = Steps::<L>::new(blank);
+    Index::build(table.allocator(), table, &mut steps)
+}
+
+// The index of a table's rows. Who counts its comparisons is told them by `Index::build`.
+fn build(table: &Table<RequestId, Row>) -> Result<Index, Memory>
+    ensures { IfOk result (λ i. StandsForIndex i table.now.items) }
+{
+    counted_build::<Brand>(table, Blank::new(1))
+}
+
+fn counted_enter<L: Ledger>(index: &mut Index, seat: &Seat, blank: Blank) -> Result<(), Memory>
+    requires name { blank.name ≡ L.name }
+    requires parts { blank.parts ≡ L.parts }
+    requires some { 0 < L.parts }
+    ensures { (ts us : List SeatValue) → Stands index.old ts → IsMore seat.now ts us → length us < 2 ^ 64 → OnOk result (Stands index.new us) }
+{
+    let mut steps = Steps::<L>::new(blank);
+    index.enter(seat, &mut steps)
+}
+
+fn enter(index: &mut Index, seat: &Seat) -> Result<(), Memory>
+    ensures { (ts us : List SeatValue) → Stands index.old ts → IsMore seat.now ts us → length us < 2 ^ 64 → OnOk result (Stands index.new us) }
+{
+    counted_enter::<Brand>(index, seat, Blank::new(1))
+}
+
+fn counted_leave<L: Ledger>(index: &mut Index, seat: &Seat, blank: Blank)
+    requires name { blank.name ≡ L.name }
+    requires parts { blank.parts ≡ L.parts }
+    requires some { 0 < L.parts }
+    ensures { (ts us : List SeatValue) → Stands index.old us → IsMore seat.now ts us → Stands index.new ts }
+{
+    let mut steps = Steps::<L>::new(blank);
+    index.leave(seat, &mut steps);
+}
+
+fn leave(index: &mut Index, seat: &Seat)
+    ensures { (ts us : List SeatValue) → Stands index.old us → IsMore seat.now ts us → Stands index.new ts }
+{
+    counted_leave::<Brand>(index, seat, Blank::new(1));
+}
 
 /// The index of a host's requests. Who keeps one has it, unless memory was refused for it: then it
 /// is made anew with the next room for a request, or when all requests are revised.
@@ -31,7 +82,7 @@ impl Indexed {
         ensures stands { IfThere (λ i. StandsForIndex i table.now.items) result }
         ensures kept { is_kept result ≡ true }
     {
-        match Index::build(table.allocator(), table) {
+        match build(table) {
             Ok(index) => Indexed::There(index),
             Err(memory) => Indexed::Lacking(memory),
         }
@@ -75,7 +126,7 @@ impl Indexed {
         ensures kept { is_kept self.new ≡ is_kept self.old }
     {
         match self {
-            Indexed::There(index) => index.enter(seat),
+            Indexed::There(index) => enter(index, seat),
             _ => Ok(()),
         }
     }
@@ -110,7 +161,7 @@ impl Indexed {
         ensures kept { is_kept self.new ≡ is_kept self.old }
     {
         match self {
-            Indexed::There(index) => index.leave(seat),
+            Indexed::There(index) => leave(index, seat),
             _ => {}
         }
     }
@@ -120,6 +171,7 @@ impl Indexed {
     pub(crate) fn reseat(&mut self, before: &Seat, after: &Seat, table: &Table<RequestId, Row>)
         ensures stands { (ts us : List SeatValue) → IfThere (λ i. Stands i us) self.old → IsMore before.now ts us
             → IsMore after.now ts (map seat_of table.now.items) → IfThere (λ i. StandsForIndex i table.now.items) self.new }
+        ensures same { before.now ≡ after.now → self.new ≡ self.old }
         ensures kept { is_kept self.new ≡ is_kept self.old }
     {
         if before.is(after) {

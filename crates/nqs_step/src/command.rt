@@ -126,10 +126,10 @@ fn on_allowed(
     now: u64,
     asker: Asker,
     user: &Name,
-    command: &Command,
+    command: &mut Command,
 ) -> Result<Plan, Memory>
     requires { IsInOrder (content state.now) }
-    ensures { IfOk result (λ plan. plan ≡ plan_of (on_allowed now (asked asker) user.now command.now (content state.now))) }
+    ensures { IfOk result (λ plan. plan ≡ plan_of (on_allowed now (asked asker) user.now command.old (content state.now))) }
 {
     match command {
         Command::Submit(submission) => on_submit(alloc, state, asker, submission),
@@ -152,10 +152,10 @@ pub(crate) fn on_command(
     now: u64,
     asker: Asker,
     user: &Name,
-    command: &Command,
+    command: &mut Command,
 ) -> Result<Plan, Memory>
     requires { IsInOrder (content state.now) }
-    ensures { IfOk result (λ plan. plan ≡ plan_of (on_command now (asked asker) user.now command.now (content state.now))) }
+    ensures { IfOk result (λ plan. plan ≡ plan_of (on_command now (asked asker) user.now command.old (content state.now))) }
 {
     if let Err(refusal) = may_command(rank(state, user), command) {
         return refuse(alloc, asker, refusal);

@@ -5,6 +5,7 @@ ghost use Rattle.nqs_state.specs.State.{content};
 ghost use Rattle.nqs_rules.specs.Causes.{first_refusal};
 ghost use Rattle.nqs_rules.specs.InOrder.{IsInOrder};
 ghost use Rattle.nqs_rules.specs.Handover.{open_hand};
+ghost use Rattle.nqs_rules.specs.Order.{pick};
 ghost use Rattle.nqs_rules.specs.Picked.{row_place};
 ghost use Rattle.nqs_rules.specs.Rows.{move_entry_causes};
 ghost use Rattle.nqs_rules.specs.Start.{limits_of, order_of, launching, printing, local_causes, moving, device_at, dest_at, start};
@@ -13,7 +14,7 @@ ghost use Rattle.nqs_step.specs.Started.{used_causes, started_row};
 
 use nqs_base::{ListOf, Memory, Name};
 use nqs_handover::{dest_at, offer_row};
-use nqs_order::pick_next;
+use nqs_order::{Steps, pick_next};
 use nqs_plans::{add_kept, change_alone, refusal_number};
 use nqs_rows::{check_arrivals, check_job};
 use nqs_state::HostState;
@@ -21,6 +22,8 @@ use nqs_types::{
     Change, Choice, Dest, Entry, LaunchOrder, Limits, Output, Plan, QueueDef, Refusal, Row,
 };
 use std::alloc::Global;
+use std::marker::Brand;
+use std::sync::ledger::{Blank, Ledger};
 
 // The request's limits, and where it states none the queue's.
 fn limits_of(limits: Limits, queue: Option<&QueueDef>) -> Limits
@@ -204,13 +207,33 @@ fn row_place(choice: Choice) -> usize
     }
 }
 
+fn counted_choice<L: Ledger>(state: &HostState, now: u64, blank: Blank) -> Option<Choice>
+    requires order { IsInOrder (content state.now) }
+    requires name { blank.name ≡ L.name }
+    requires parts { blank.parts ≡ L.parts }
+    requires some { 0 < L.parts }
+    ensures { result ≡ pick now (content state.now) }
+{
+    let mut steps = Steps::<L>::new(blank);
+    let (choice, _) = pick_next(state, now, &mut steps);
+    choice
+}
+
+// What is started next, of which nobody counts the comparisons.
+fn next_choice(state: &HostState, now: u64) -> Option<Choice>
+    requires { IsInOrder (content state.now) }
+    ensures { result ≡ pick now (content state.now) }
+{
+    counted_choice::<Brand>(state, now, Blank::new(1))
+}
+
 /// What the host starts at a moment, in seconds since 1970, if anything: the plan of what is
 /// picked.
 pub fn start(alloc: Global, state: &HostState, now: u64) -> Result<Option<Plan>, Memory>
     requires { IsInOrder (content state.now) }
     ensures { IfOk result (λ plan. plan ≡ option_map plan_of (start now (content state.now))) }
 {
-    let Some(choice) = pick_next(state, now) else {
+    let Some(choice) = next_choice(state, now) else {
         return Ok(None);
     };
     match state.rows.get_at(row_place(choice)) {

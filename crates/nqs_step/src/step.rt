@@ -128,9 +128,9 @@ fn unlaunched_by(
     }
 }
 
-/// What the host does at an event: the plan of its rule. The script of an offer that is promised
-/// moves from the event into the plan, also where memory is wanting then, so that the event can't
-/// be taken once more. An `Err` is want of memory.
+/// What the host does at an event: the plan of its rule. The script of a submission, or of an offer
+/// that is promised, moves from the event into the plan, also where memory is wanting then, so that
+/// the event can't be taken once more. An `Err` is want of memory.
 pub fn step(alloc: Global, state: &HostState, event: &mut Event) -> Result<Plan, Memory>
     requires { IsInOrder (content state.now) }
     ensures { IfOk result (λ plan. plan ≡ plan_of (step event.old (content state.now))) }

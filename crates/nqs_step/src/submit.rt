@@ -12,6 +12,7 @@ use nqs_rows::check_submit;
 use nqs_state::HostState;
 use nqs_types::{Change, Job, Plan, Refusal, Reply, RequestId, Submission};
 use std::alloc::Global;
+use std::mem::replace;
 
 // The path, or the default one where it is empty: NAME.oSEQ or NAME.eSEQ.
 fn path_or(alloc: Global, path: &Bytes, name: &Name, letter: u8, seq: u32) -> Result<Bytes, Memory>
@@ -45,15 +46,16 @@ fn completed(alloc: Global, seq: u32, job: &Job) -> Result<Job, Memory>
     })
 }
 
+// The script is taken and not copied.
 fn submit_to(
     alloc: Global,
     state: &HostState,
     asker: Asker,
-    submission: &Submission,
+    submission: &mut Submission,
     queue: Name,
 ) -> Result<Plan, Memory>
     requires { state.now.seq + 1 < 2 ^ 32 }
-    ensures { IfOk result (λ plan. plan ≡ plan_of (submit_to (asked asker) submission.now (content state.now) (Some queue))) }
+    ensures { IfOk result (λ plan. plan ≡ plan_of (submit_to (asked asker) submission.old (content state.now) (Some queue))) }
 {
     let seq = state.seq + 1;
     let host = state.me;
@@ -62,7 +64,8 @@ fn submit_to(
         job: completed(alloc, seq, &submission.job)?,
         script: no_extent(),
     };
-    let plan = change_storing(alloc, submitted, copy_bytes(&submission.script)?)?;
+    let script = replace(&mut submission.script, ListOf::new(alloc));
+    let plan = change_storing(alloc, submitted, script)?;
     let id = RequestId { seq, host };
     add(plan, reply_to(asker, Reply::Submitted { id, queue }))
 }
@@ -72,10 +75,10 @@ pub(crate) fn on_submit(
     alloc: Global,
     state: &HostState,
     asker: Asker,
-    submission: &Submission,
+    submission: &mut Submission,
 ) -> Result<Plan, Memory>
     requires { state.now.seq + 1 < 2 ^ 32 }
-    ensures { IfOk result (λ plan. plan ≡ plan_of (on_submit (asked asker) submission.now (content state.now))) }
+    ensures { IfOk result (λ plan. plan ≡ plan_of (on_submit (asked asker) submission.old (content state.now))) }
 {
     match check_submit(state, submission) {
         Err(refusal) => refuse(alloc, asker, refusal),

@@ -3,6 +3,7 @@ pub mod Formatted
 pub mod LeftAlone
 pub mod HostRuns
 pub mod EachDisk
+pub mod Asking
 pub mod Telling
 pub mod TellsNow
 pub mod LoadEnds

@@ -1,5 +1,5 @@
 -- What a load answers, from what the opening of the journal that the root names does.
-use Rattle.std.proofs.Common.{◌≡◌, ◌⊎◌, inl, inr, ℕ, Bool, not, IsTrue, List, Result, Ok, Err, IfOk, IfErr, MatchResult, sym, ap, subst, ◌∙◌}
+use Rattle.std.proofs.Common.{◌≡◌, ◌≤◌, ◌+◌, ◌⊎◌, inl, inr, ℕ, Bool, not, IsTrue, List, Result, Ok, Err, IfOk, IfErr, MatchResult, sym, ap, subst, ◌∙◌}
 use Rattle.nqs_state.specs.State.{content}
 use Rattle.nqs_state.specs.declared.state.HostState.{HostState}
 use Rattle.nqs_base.specs.Want.{want}
@@ -17,13 +17,14 @@ use Rattle.nqs_store.specs.Disks.{disk_at, histories_of, contents}
 use Rattle.nqs_store.specs.Images.{IsToldHost}
 use Rattle.nqs_store.specs.Opens.{AreOpened, OpensOn, Loads}
 use Rattle.nqs_store.specs.Faults.{IsBytesFault, IsLoadFault}
-use Rattle.nqs_store.specs.Reads.{OnlyReads, FailedToRead}
+use Rattle.nqs_store.specs.Reads.{OnlyReads, FailedToRead, AsksAtMost, of_reading}
 use Rattle.nqs_store.specs.Stores.{disk_of, history_of, journal_in, active_of, Tells}
 use Rattle.nqs_store.specs.declared.disks.Disks.{Disks}
 use Rattle.nqs_store.specs.declared.fault.LoadFault.{LoadFault}
 use Rattle.nqs_store.specs.declared.fault.LoadFault.TheVariants as load
 use Rattle.nqs_store.specs.declared.store.Store.{Store}
 use Rattle.nqs_store.proofs.EachDisk.{each_of, stands_on, history_on}
+use Rattle.nqs_store.proofs.Asking.{asks_each, asks_named}
 use Rattle.nqs_store.proofs.Never.{one_told, load_not}
 use Rattle.nqs_store.proofs.Opening.{read_fault, one_same, each_reads, failed_at, opened_tells, tells_read, tells_active}
 
@@ -72,6 +73,31 @@ module _ {D : Type 0} (g : disk.Ghosts D) (disks : Disks D) (root : D)
       each_reads g (λ at. disk_at at disks) (λ at. disk_at at e.1)
       (each_of b (λ w. One (disk_at w disks) (disk_at w e.1)) (subst (One disks.root) (sym is) read) active
       (one_same g (disk_at (journal_on (not b)) disks) (disk_at (journal_on (not b)) e.1) rests) spool)
+
+  -- the journal that is named was asked twice
+  abbrev Twices : Answer → Type 0
+  Twices r = IsTrue g.tells → MatchResult r (λ x. g.reads (journals.disk_of (journal_in b x.0)) ≤ g.reads (disk_at (journal_on b) disks) + 2)
+      (λ e. g.reads (disk_at (journal_on b) e.1) ≤ g.reads (disk_at (journal_on b) disks) + 2)
+
+  -- the spool was asked once
+  abbrev Onces : Answer → Type 0
+  Onces r = IsTrue g.tells → MatchResult r (λ x. g.reads (spools.disk_of x.0.spool) ≤ g.reads disks.spool + 1)
+      (λ e. g.reads e.1.spool ≤ g.reads disks.spool + 1)
+
+  asks_end : (r : Answer) → (IsTrue g.tells → b ≡ is_second (bytes Root)) → (IsTrue g.tells → g.reads root ≤ g.reads disks.root + 1)
+      → Roots r → Twices r → Rests r → Onces r
+      → MatchResult r (λ x. AsksAtMost g (λ at. disk_at at disks) (λ at. disk_of at x.0) (of_reading (is_second (bytes Root))))
+      (λ e. AsksAtMost g (λ at. disk_at at disks) (λ at. disk_at at e.1) (of_reading (is_second (bytes Root))))
+  asks_end (Ok x) names asked is twice rests once =
+      asks_named g (λ at. disk_at at disks) (λ at. disk_of at x.0) b (is_second (bytes Root)) names
+      (asks_each g (λ at. disk_at at disks) (λ at. disk_of at x.0) b
+      (λ yes. subst (λ d. g.reads d ≤ g.reads disks.root + 1) (sym is) (asked yes))
+      (λ yes. subst (λ d. g.reads d ≤ g.reads (disk_at (journal_on b) disks) + 2) (sym (stands_on b x.0)) (twice yes))
+      (stands_on (not b) x.0 ∙ rests) once)
+  asks_end (Err e) names asked is twice rests once =
+      asks_named g (λ at. disk_at at disks) (λ at. disk_at at e.1) b (is_second (bytes Root)) names
+      (asks_each g (λ at. disk_at at disks) (λ at. disk_at at e.1) b
+      (λ yes. subst (λ d. g.reads d ≤ g.reads disks.root + 1) (sym is) (asked yes)) twice rests once)
 
   failed_end : (r : Answer)
       → IfErr r (λ e. (which : Which) → e.0 ≡ load.Disk which
@@ -136,10 +162,10 @@ module _ {D : Type 0} (g : disk.Ghosts D) (disks : Disks D) (root : D)
     host_end (Err e) one host told = tt
 
   -- the whole of it, by what the opening of the journal does
-  pub loads_end : (r : Answer) → (IsTrue g.tells → b ≡ is_second (bytes Root))
+  pub loads_end : (r : Answer) → (IsTrue g.tells → b ≡ is_second (bytes Root)) → (IsTrue g.tells → g.reads root ≤ g.reads disks.root + 1)
       → (IsTrue g.tells → (which : Which) → IsQuiet (histories_of g.history disks which))
       → OpensOn b root (disk_at (journal_on b) disks) (disk_at (journal_on (not b)) disks) disks.spool r → Loads disks r
-  loads_end r names quiet o = record {
+  loads_end r names asked quiet o = record {
     tells = tells;
     active = λ yes. active_end yes (names yes) r (tells yes) o.root o.active o.resting o.spool;
     sound = o.sound;
@@ -150,6 +176,7 @@ module _ {D : Type 0} (g : disk.Ghosts D) (disks : Disks D) (root : D)
     told = λ yes. host_end yes (names yes) r (told_end yes (names yes) r (tells yes) o.root o.active o.resting o.spool);
     never = λ yes plain is. never_end yes (names yes) r (o.fault yes) is.host is.is;
     reads = reads_end r o.root o.active o.resting o.spool;
+    asks = asks_end r names asked o.root o.twice o.resting o.once;
   }
     where
       tells : IsTrue g.tells → IfOk r (λ x. Tells x.0 (content x.1))

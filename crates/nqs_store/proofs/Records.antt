@@ -26,13 +26,15 @@ module _ {D : Type 0} {g : disk.Ghosts D} (old now : Journal D g) (text : List �
       → (IsTrue g.tells → (front : List ℕ) (payloads : List (List ℕ)) → Tells old front payloads → Tells now front (payloads ++ text ∷ []))
       → (IsTrue g.tells → (i : ℕ) → g.fails (disk_of now) i ≡ g.fails (disk_of old) i)
       → g.faults (disk_of old) ≤ g.faults (disk_of now)
+      → (IsTrue g.tells → g.reads (disk_of now) ≡ g.reads (disk_of old))
       → Appends {T = Unit {0}} {E = E} old now text (Ok tt)
-  append_done running counted made clear any_moment acknowledged fuse later = record {
+  append_done running counted made clear any_moment acknowledged fuse later unread = record {
     done = record { running = running; counted = counted; made = made; clear = clear; any_moment = any_moment; acknowledged = acknowledged };
     fault = tt;
     short = tt;
     fuse = fuse;
     later = later;
+    unread = unread;
   }
 
   -- that of a short text, to a journal that isn't stopped, fails by its disk alone
@@ -68,8 +70,9 @@ module _ {D : Type 0} {g : disk.Ghosts D} (old now : Journal D g) (text : List �
       (λ image. StandsAfter front image (payloads ++ text ∷ [])))
       → (IsTrue g.tells → (i : ℕ) → g.fails (disk_of now) i ≡ g.fails (disk_of old) i)
       → g.faults (disk_of old) ≤ g.faults (disk_of now)
+      → (IsTrue g.tells → g.reads (disk_of now) ≡ g.reads (disk_of old))
       → Appends {T = Unit {0}} old now text (Err fault)
-  append_failed fault short running said only long stopped rose broken exact any_moment until_third at_the_gate fuse later = record {
+  append_failed fault short running said only long stopped rose broken exact any_moment until_third at_the_gate fuse later unread = record {
     done = tt;
     fault = rose (as_err said Disk (by_disk short running said only (λ p. long.0 (as_err said TooLong p)) (λ p. (stopped.0 (as_err said Stopped p)).1)));
     short = record {
@@ -81,4 +84,5 @@ module _ {D : Type 0} {g : disk.Ghosts D} (old now : Journal D g) (text : List �
     };
     fuse = fuse;
     later = later;
+    unread = unread;
   }

@@ -87,6 +87,8 @@ module _ {D : Type 0} {g : disk.Ghosts D} {T E : Type 0} where
         × FailsFirst (g.fails (spool.disk_of old)) (moment (spool.history_of old)) (spool_calls puts) i)
     -- which calls are to fail stays
     pub fuse : IsTrue g.tells → (i : ℕ) → g.fails (spool.disk_of now) i ≡ g.fails (spool.disk_of old) i
+    -- the disk isn't read
+    pub unread : IsTrue g.tells → g.reads (spool.disk_of now) ≡ g.reads (spool.disk_of old)
     -- each image of each moment holds what the live extents hold
     pub kept : IsTrue g.tells → (live : List Extent) → spool.Tells old live → (x : Extent) (script : List ℕ) → Has live x
         → Holds (content (spool.history_of old)) x script
@@ -107,6 +109,8 @@ module _ {D : Type 0} {g : disk.Ghosts D} {T E : Type 0} where
     pub fuse : IsTrue g.tells → (i : ℕ) → g.fails (journal.disk_of now) i ≡ g.fails (journal.disk_of old) i
     -- its disk's count of faults doesn't fall
     pub later : g.faults (journal.disk_of old) ≤ g.faults (journal.disk_of now)
+    -- which isn't read
+    pub unread : IsTrue g.tells → g.reads (journal.disk_of now) ≡ g.reads (journal.disk_of old)
 
   -- a journal begins anew with a text, or a call of it failed
   pub record Begins (old now : Journal D g) (text : List ℕ) (result : Result T E) : Type 0 where
@@ -118,6 +122,8 @@ module _ {D : Type 0} {g : disk.Ghosts D} {T E : Type 0} where
     pub fuse : IsTrue g.tells → (i : ℕ) → g.fails (journal.disk_of now) i ≡ g.fails (journal.disk_of old) i
     -- its disk's count of faults doesn't fall
     pub later : g.faults (journal.disk_of old) ≤ g.faults (journal.disk_of now)
+    -- which isn't read
+    pub unread : IsTrue g.tells → g.reads (journal.disk_of now) ≡ g.reads (journal.disk_of old)
 
 -- the state that a store tells, after a change with these bytes
 abbrev pub state_after : {D : Type 0} {g : disk.Ghosts D} → Store D g → Change Extent → List (List ℕ) → Host → Plain

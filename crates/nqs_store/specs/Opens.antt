@@ -1,20 +1,20 @@
 -- What opening a host's disks finds.
-use Rattle.std.specs.Prelude.{◌≡◌, ◌⊎◌, ℕ, ◌≤◌, ◌^◌, Bool, false, not, IsTrue, List, length, Some, IfOk, IfErr, IsErrOf, MatchResult}
+use Rattle.std.specs.Prelude.{◌≡◌, ◌⊎◌, ℕ, ◌+◌, ◌≤◌, ◌^◌, Bool, false, not, IsTrue, List, length, Some, IfOk, IfErr, IsErrOf, MatchResult}
 use Rattle.std.specs.declared.result.Result.{Result}
 use Rattle.std.specs.List.{AllByRecursion}
 use Rattle.nqs_base.specs.declared.extent.Extent.{Extent}
 use Rattle.nqs_state.specs.State.{Plain, content}
 use Rattle.nqs_state.specs.declared.state.HostState.{HostState}
 use Rattle.nqs_types.specs.declared.world.Which.{Which}
-use Rattle.nqs_types.specs.declared.world.Which.TheVariants.{Spool as SpoolDisk}
+use Rattle.nqs_types.specs.declared.world.Which.TheVariants.{Root, Spool as SpoolDisk}
 use Rattle.nqs_base.specs.Want.{want}
 use Rattle.nqs_outside.specs.History.{content as bytes_now}
-use Rattle.nqs_rules.specs.Journals.{journal_on}
+use Rattle.nqs_rules.specs.Journals.{is_second, journal_on}
 use Rattle.nqs_store.specs.Active.{IsActive}
 use Rattle.nqs_store.specs.Disks.{disk_at, histories_of, contents}
 use Rattle.nqs_store.specs.Faults.{IsBytesFault, IsLoadFault}
 use Rattle.nqs_store.specs.Images.{IsTold, IsToldHost}
-use Rattle.nqs_store.specs.Reads.{OnlyReads, FailedToRead}
+use Rattle.nqs_store.specs.Reads.{OnlyReads, FailedToRead, AsksAtMost, of_reading}
 use Rattle.nqs_store.specs.Sound.{IsSoundHost}
 use Rattle.nqs_store.specs.Stores as store
 use Rattle.nqs_store.specs.declared.disks.Disks.{Disks}
@@ -82,6 +82,12 @@ module _ {D : Type 0} {g : disk.Ghosts D} where
         (λ e. one.OnlyReads g on_active e.1)
     -- the other is left alone
     pub resting : MatchResult result (λ r. journals.disk_of r.1 ≡ on_resting) (λ e. e.2 ≡ on_resting)
+    -- the journal is asked twice, for its length and for its bytes
+    pub twice : IsTrue g.tells → MatchResult result (λ r. g.reads (journals.disk_of r.0) ≤ g.reads on_active + 2)
+        (λ e. g.reads e.1 ≤ g.reads on_active + 2)
+    -- the spool once, for its length
+    pub once : IsTrue g.tells → MatchResult result (λ r. g.reads (spool.disk_of r.2) ≤ g.reads on_spool + 1)
+        (λ e. g.reads e.3 ≤ g.reads on_spool + 1)
     -- the spool is only read
     pub spool : MatchResult result (λ r. one.OnlyReads g on_spool (spool.disk_of r.2))
         (λ e. one.OnlyReads g on_spool e.3)
@@ -116,6 +122,13 @@ module _ {D : Type 0} {g : disk.Ghosts D} where
     -- the other is left alone
     pub resting : MatchResult result (λ r. journals.disk_of (store.journal_in (not second) r.0) ≡ on_resting)
         (λ e. disk_at (journal_on (not second)) e.1 ≡ on_resting)
+    -- the journal is asked twice, for its length and for its bytes
+    pub twice : IsTrue g.tells → MatchResult result
+        (λ r. g.reads (journals.disk_of (store.journal_in second r.0)) ≤ g.reads on_active + 2)
+        (λ e. g.reads (disk_at (journal_on second) e.1) ≤ g.reads on_active + 2)
+    -- the spool once, for its length
+    pub once : IsTrue g.tells → MatchResult result (λ r. g.reads (spool.disk_of r.0.spool) ≤ g.reads on_spool + 1)
+        (λ e. g.reads e.1.spool ≤ g.reads on_spool + 1)
     -- the spool is only read
     pub spool : MatchResult result (λ r. one.OnlyReads g on_spool (spool.disk_of r.0.spool))
         (λ e. one.OnlyReads g on_spool e.1.spool)
@@ -146,6 +159,10 @@ module _ {D : Type 0} {g : disk.Ghosts D} where
     pub reads : MatchResult result
         (λ r. OnlyReads g (λ at. disk_at at disks) (λ at. store.disk_of at r.0))
         (λ e. OnlyReads g (λ at. disk_at at disks) (λ at. disk_at at e.1))
+    -- each of them is asked no more often than by a reading
+    pub asks : MatchResult result
+        (λ r. AsksAtMost g (λ at. disk_at at disks) (λ at. store.disk_of at r.0) (of_reading (is_second (bytes_now (g.history disks.root)))))
+        (λ e. AsksAtMost g (λ at. disk_at at disks) (λ at. disk_at at e.1) (of_reading (is_second (bytes_now (g.history disks.root)))))
 
 module _ {D : Type 0} {g : disk.Ghosts D} (old now : Store D g) where
   -- The host is told by what the disks of an open store hold now, whatever the store told before.
@@ -166,6 +183,8 @@ module _ {D : Type 0} {g : disk.Ghosts D} (old now : Store D g) where
     pub failed : (which : Which) → IsErrOf result (load.Disk which) → store.FailedToRead old now which
     -- the disks are only read
     pub reads : store.OnlyReads old now
+    -- each of them is asked no more often than by a reading
+    pub asks : store.AsksAtMost old now (of_reading (is_second (bytes_now (store.history_of old Root))))
     -- the store is the same
     pub stays : (store.is_stopped now ≡ store.is_stopped old) × (store.active_of now ≡ store.active_of old)
     -- and tells what it told

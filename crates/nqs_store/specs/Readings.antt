@@ -1,5 +1,5 @@
 -- What is found where a host is read from its disks, call by call.
-use Rattle.std.specs.Prelude.{◌≡◌, ◌⊎◌, ℕ, ◌≤◌, ◌^◌, Bool, IsTrue, List, length, Some, IfOk, IfErr, OnErr, IsErrOf}
+use Rattle.std.specs.Prelude.{◌≡◌, ◌⊎◌, ℕ, ◌+◌, ◌≤◌, ◌^◌, Bool, IsTrue, List, length, Some, IfOk, IfErr, OnErr, IsErrOf}
 use Rattle.std.specs.declared.result.Result.{Result}
 use Rattle.nqs_state.specs.State.{content}
 use Rattle.nqs_state.specs.declared.state.HostState.{HostState}
@@ -45,6 +45,8 @@ module _ {D E : Type 0} (g : disk.Ghosts D) where
     pub failed : OnErr result (one.FailedToRead g old now)
     -- the root is only read
     pub reads : one.OnlyReads g old now
+    -- and is asked once
+    pub once : IsTrue g.tells → g.reads now ≤ g.reads old + 1
 
 module _ {D : Type 0} (g : disk.Ghosts D) where
   -- The host that a snapshot, if there is one, and records of a journal on this disk tell, with the
@@ -62,6 +64,8 @@ module _ {D : Type 0} (g : disk.Ghosts D) where
     pub failed : (which : Which) → IsErrOf result (load.Disk which) → (which ≡ SpoolDisk) × one.FailedToRead g old now
     -- the spool is only read
     pub reads : one.OnlyReads g old now
+    -- and is asked once, for its length
+    pub once : IsTrue g.tells → g.reads now ≤ g.reads old + 1
 
   -- The host that a journal, which stands on this disk, and a spool tell.
   pub record FindsHost (on : Which) (old_active now_active old_spool now_spool : D) (result : Result HostState LoadFault) : Type 0 where
@@ -81,6 +85,10 @@ module _ {D : Type 0} (g : disk.Ghosts D) where
     pub active : one.OnlyReads g old_active now_active
     -- and so is the spool
     pub spool : one.OnlyReads g old_spool now_spool
+    -- the journal is asked twice, for its length and for its bytes
+    pub twice : IsTrue g.tells → g.reads now_active ≤ g.reads old_active + 2
+    -- the spool once, for its length
+    pub once : IsTrue g.tells → g.reads now_spool ≤ g.reads old_spool + 1
 
 module _ {D : Type 0} {g : disk.Ghosts D} where
   -- The same of an open journal and an open spool.

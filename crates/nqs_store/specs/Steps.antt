@@ -93,3 +93,5 @@ module _ {D T E : Type 0} (g : disk.Ghosts D) where
     pub later : g.faults old ≤ g.faults now
     -- a failed call was counted
     pub failed : OnErr result (Rose (g.faults old) (g.faults now))
+    -- the root isn't read
+    pub unread : IsTrue g.tells → g.reads now ≡ g.reads old

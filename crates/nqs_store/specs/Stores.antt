@@ -90,3 +90,11 @@ module _ {D : Type 0} {g : disk.Ghosts D} where
   -- a read of one of its disks failed
   abbrev pub FailedToRead : (old now : Store D g) → Which → Type 0
   FailedToRead old now = reads.FailedToRead g (λ which. disk_of which old) (λ which. disk_of which now)
+
+  -- the store asked its disks for bytes or for a length so often at most
+  abbrev pub AsksAtMost : (old now : Store D g) → (Which → ℕ) → Type 0
+  AsksAtMost old now = reads.AsksAtMost g (λ which. disk_of which old) (λ which. disk_of which now)
+
+  -- it asked none of them
+  abbrev pub AsksNone : (old now : Store D g) → Type 0
+  AsksNone old now = reads.AsksNone g (λ which. disk_of which old) (λ which. disk_of which now)

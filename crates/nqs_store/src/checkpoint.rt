@@ -9,7 +9,7 @@ ghost use Rattle.nqs_snapshot.specs.Spelling.{state_field};
 ghost use Rattle.nqs_store.specs.Sound.{IsSoundHost};
 ghost use Rattle.nqs_store.specs.Calls.{Begins, MayStop, TurnsOver};
 ghost use Rattle.nqs_store.specs.Faults.{IsDisk};
-ghost use Rattle.nqs_store.specs.Stores.{pick};
+ghost use Rattle.nqs_store.specs.Stores.{pick, AsksNone};
 ghost use Rattle.nqs_store.specs.Steps.{WritesCheckpoint, Names};
 
 use crate::fault::StoreFault;
@@ -89,6 +89,8 @@ impl<D: Disk> Store<D> {
         ensures only { IfErr result IsDisk }
         ensures stops { MayStop self.old self.new StoreFault.Disk result }
         ensures turns { TurnsOver self.old self.new StoreFault.Disk result text.now }
+        // No disk is read.
+        ensures unread { AsksNone self.old self.new }
     {
         self.stopped = true;
         let second = !self.on_second;

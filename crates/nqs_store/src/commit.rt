@@ -26,7 +26,7 @@ use std::alloc::Global;
 const DUE: u64 = 4096;
 
 impl<D: Disk> Store<D> {
-    ghost use Rattle.nqs_store.specs.Stores.{is_stopped, active_of};
+    ghost use Rattle.nqs_store.specs.Stores.{is_stopped, active_of, AsksNone};
 
     // Keeps a change in the active journal. Memory for all of it was taken before.
     fn keep_change(
@@ -43,6 +43,8 @@ impl<D: Disk> Store<D> {
         ensures stops { MayStop self.old self.new StoreFault.Disk result }
         ensures keeps { KeepsChange self.old self.new change.old change.new puts.now (content state.now) (recorded (active_of self.old)) result }
         ensures calls { Records self.old self.new change.old puts.now (content state.now) StoreFault.Disk result }
+        // No disk is read.
+        ensures unread { AsksNone self.old self.new }
     {
         self.stopped = true;
         // The bytes come before the record: whatever record is read names extents that hold them.
@@ -78,6 +80,8 @@ impl<D: Disk> Store<D> {
         ensures stops { MayStop self.old self.new StoreFault.Disk result }
         ensures keeps { KeepsChange self.old self.new change.old change.new puts.now (content state.now) (recorded (ready (active_of self.old))) result }
         ensures calls { Commits self.old self.new change.old puts.now (content state.now) StoreFault.Disk result }
+        // No disk is read.
+        ensures unread { AsksNone self.old self.new }
     {
         if !self.due() {
             return self.keep_change(alloc, state, change, puts, extents, text);
@@ -112,6 +116,8 @@ impl<D: Disk> Store<D> {
         ensures stops { MayStop self.old self.new StoreFault.Disk result }
         ensures keeps { KeepsChange self.old self.new change.old change.new puts.now (content state.now) (recorded (ready (active_of self.old))) result }
         ensures calls { Commits self.old self.new change.old puts.now (content state.now) StoreFault.Disk result }
+        // No disk is read.
+        ensures unread { AsksNone self.old self.new }
     {
         if self.stopped {
             return Err(StoreFault::Stopped);
@@ -138,6 +144,8 @@ impl<D: Disk> Store<D> {
         ensures memory { IsErrOf result (StoreFault.Memory want) → IsLeft self.old self.new }
         ensures stops { MayStop self.old self.new StoreFault.Disk result }
         ensures turns { Checkpoints self.old self.new StoreFault.Disk result (state_field (content state.now)) (content state.now) }
+        // No disk is read.
+        ensures unread { AsksNone self.old self.new }
     {
         if self.stopped {
             return Err(StoreFault::Stopped);

@@ -87,6 +87,8 @@ pub fn format<D: Disk>(
     ensures cause { IsTrue D.tells → IsErrOf result (StoreFault.Disk Which.First) → IsTrue (D.starved disks.new.first) ⊎ (i : ℕ)
         × IsTrue (D.fails disks.old.first i) }
     ensures fuse { IsTrue D.tells → (i : ℕ) → D.fails disks.new.first i ≡ D.fails disks.old.first i }
+    // No disk is read, and the others are left alone.
+    ensures unread { IsTrue D.tells → D.reads disks.new.first ≡ D.reads disks.old.first }
     ensures root { disks.new.root ≡ disks.old.root }
     ensures second { disks.new.second ≡ disks.old.second }
     ensures spool { disks.new.spool ≡ disks.old.spool }

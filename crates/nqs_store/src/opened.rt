@@ -11,6 +11,7 @@ ghost use Rattle.nqs_store.specs.Told.{Host};
 ghost use Rattle.nqs_store.specs.Live.{live};
 ghost use Rattle.nqs_store.specs.Opens.{Rereads};
 ghost use Rattle.nqs_store.specs.Faults.{IsScriptFault};
+ghost use Rattle.nqs_store.specs.Reads.{of_spool};
 
 use crate::fault::{LoadFault, StoreFault};
 use crate::reading::{names_second, reread_host};
@@ -23,7 +24,7 @@ use nqs_types::Which;
 use std::alloc::Global;
 
 impl<D: Disk> Store<D> {
-    ghost use Rattle.nqs_store.specs.Stores.{history_of, is_stopped, active_of, Tells, bytes_of, OnlyReads, FailedToRead};
+    ghost use Rattle.nqs_store.specs.Stores.{history_of, is_stopped, active_of, Tells, bytes_of, OnlyReads, FailedToRead, AsksAtMost};
 
     /// Whether an earlier commit or checkpoint was answered `Disk`.
     pub fn is_stopped(&self) -> bool
@@ -45,6 +46,8 @@ impl<D: Disk> Store<D> {
         ensures memory { IsErrOf result (StoreFault.Memory want) → vec_capacity out.old < length out.old.items + extent.now.length }
         ensures failed { IsErrOf result (StoreFault.Disk Spool) → FailedToRead self.old self.new Spool }
         ensures reads { OnlyReads self.old self.new }
+        // The spool is asked once, and no other disk.
+        ensures once { AsksAtMost self.old self.new (of_spool 1) }
         ensures stays { (is_stopped self.new ≡ is_stopped self.old) × (active_of self.new ≡ active_of self.old) }
         ensures tells { IsTrue D.tells → (host : Host) → Tells self.old host → Tells self.new host }
     {
@@ -95,6 +98,7 @@ impl<D: Fused> Store<D> {
         ensures others { (disk : Which) → disk ≢ which → (i : ℕ) → fails_of self.new disk i ≡ fails_of self.old disk i }
         ensures starved { (disk : Which) → is_starved self.new disk ≡ is_starved self.old disk }
         ensures faults { (disk : Which) → D.faults (disk_of disk self.new) ≡ D.faults (disk_of disk self.old) }
+        ensures unread { (disk : Which) → D.reads (disk_of disk self.new) ≡ D.reads (disk_of disk self.old) }
         ensures stopped { (is_stopped self.new ≡ is_stopped self.old) × (active_of self.new ≡ active_of self.old) }
         ensures tells { (host : Host) → Tells self.old host → Tells self.new host }
     {

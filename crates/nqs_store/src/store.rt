@@ -3,7 +3,7 @@
 ghost use Rattle.std.specs.Prelude.{◌≡◌, ◌≤◌, ◌^◌, ℕ, true, false, IsTrue, IsErrOf, IfOk, IfErr, if◌then◌else◌};
 ghost use Rattle.nqs_state.specs.State.{Plain, content};
 ghost use Rattle.nqs_types.specs.declared.world.Which.{Which};
-ghost use Rattle.nqs_outside.specs.History.{IsQuiet};
+ghost use Rattle.nqs_outside.specs.History.{IsQuiet, content as bytes_now};
 ghost use Rattle.nqs_journal.specs.Open.{is_stopped as is_journal_stopped};
 ghost use Rattle.nqs_store.specs.Told.{Host};
 ghost use Rattle.nqs_spool.specs.Extents.{AreSound};
@@ -12,7 +12,8 @@ ghost use Rattle.nqs_store.specs.Sound.{IsSoundHost};
 ghost use Rattle.nqs_store.specs.Disks.{disk_at, histories_of, contents};
 ghost use Rattle.nqs_store.specs.Images.{IsTold, IsToldHost};
 ghost use Rattle.nqs_store.specs.Faults.{IsLoadFault};
-ghost use Rattle.nqs_store.specs.Reads.{OnlyReads, FailedToRead};
+ghost use Rattle.nqs_store.specs.Reads.{OnlyReads, FailedToRead, AsksAtMost, of_reading};
+ghost use Rattle.nqs_rules.specs.Journals.{is_second};
 
 use crate::disks::Disks;
 use crate::fault::LoadFault;
@@ -57,6 +58,9 @@ pub fn read_only<D: Disk>(alloc: Global, disks: &mut Disks<D>) -> Result<HostSta
         → (which : Which) (place : ℕ) → IsErrOf result (LoadFault.NotNqs which place) → ⊥ }
 
     ensures reads { OnlyReads D.Disk (λ at. disk_at at disks.old) (λ at. disk_at at disks.new) }
+    // The root and the spool are asked once, the journal that is named twice, the other one never.
+    ensures asks { AsksAtMost D.Disk (λ at. disk_at at disks.old) (λ at. disk_at at disks.new)
+        (of_reading (is_second (bytes_now (D.history disks.old.root)))) }
 {
     let Ok(second) = names_second(&mut disks.root) else {
         return Err(LoadFault::Disk(Which::Root));

@@ -1,20 +1,15 @@
 -- Short schedules in which several handovers are open at once from one host to another.
-use Rattle.std.specs.Prelude.{ℕ, false, List, [], ◌∷◌, ◌++◌, map, replicate, codes, None, Some}
+use Rattle.std.specs.Prelude.{ℕ, false, List, [], ◌∷◌, ◌++◌, map, replicate, codes}
 use Rattle.nqs_rules.specs.World.{Act, Asks, Delivers, Ticks, Clock, Crashes, Boots, Shows}
-use Rattle.nqs_worked.specs.ScheduleWords.{host, named, typed, edits, submits}
+use Rattle.nqs_worked.specs.ScheduleWords.{host, named, edits, submits, with_link}
 use Rattle.nqs_worked.specs.Waits.{asks_why}
 use Rattle.nqs_types.specs.declared.event.Command.TheVariants.{Delete}
 use Rattle.nqs_types.specs.declared.edit.Edit.TheVariants.{Conf}
-use Rattle.nqs_types.specs.declared.edit.ConfEdit.TheVariants.{CreatePipeQueue, EnableQueue, StartQueue, SetRunLimit}
+use Rattle.nqs_types.specs.declared.edit.ConfEdit.TheVariants.{SetRunLimit}
 
 -- a pipe queue to the other host, of which so many requests may be on their way
 abbrev pub with_link_for : ℕ → List Act
-with_link_for n =
-    edits (Conf (CreatePipeQueue (codes "link") None None false (Some (typed (codes "batch") (codes "beta")))))
-    ∷ edits (Conf (EnableQueue (codes "link")))
-    ∷ edits (Conf (StartQueue (codes "link")))
-    ∷ edits (Conf (SetRunLimit n (codes "link")))
-    ∷ []
+with_link_for n = with_link ++ edits (Conf (SetRunLimit n (codes "link"))) ∷ []
 
 -- so many submissions to it, one after the other
 abbrev pub submitted : ℕ → List Act

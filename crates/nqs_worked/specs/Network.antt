@@ -1,7 +1,7 @@
 -- Schedules of several hosts, their words read.
 use Rattle.std.specs.Prelude.{true, false, List, [], ◌∷◌, ◌++◌, codes, None, Some}
 use Rattle.nqs_rules.specs.World.{Act, Asks, Ends, Writes, Delivers, Ticks, Clock, Fuse, Crashes, Boots, Shows}
-use Rattle.nqs_worked.specs.ScheduleWords.{host, request, named, typed, job_of, submission}
+use Rattle.nqs_worked.specs.ScheduleWords.{host, request, named, typed, job_of, submission, with_link, scripted}
 use Rattle.nqs_base.specs.declared.tear.Tear.TheVariants.{New}
 use Rattle.nqs_types.specs.declared.world.Which.TheVariants.{First}
 use Rattle.nqs_types.specs.declared.event.Command.TheVariants.{Edit, Delete}
@@ -15,10 +15,8 @@ use Rattle.nqs_types.specs.declared.edit.RowsEdit.TheVariants.{ReleaseRequest}
 -- a handover, with each packet repeated
 abbrev pub handover : List Act
 handover =
-    Asks (host 0) (codes "root") (Edit (Conf (CreatePipeQueue (codes "link") None None false (Some (typed (codes "batch") (codes "beta"))))))
-    ∷ Asks (host 0) (codes "root") (Edit (Conf (EnableQueue (codes "link"))))
-    ∷ Asks (host 0) (codes "root") (Edit (Conf (StartQueue (codes "link"))))
-    ∷ Asks (host 0) (codes "ann") (submission (Some (codes "link")) (job_of (codes "ann")) (codes "date"))
+    with_link
+    ++ scripted
     ∷ Delivers 1
     ∷ Delivers 1
     ∷ Delivers 1
@@ -32,10 +30,8 @@ handover =
 -- the source stops as it commits, and says so after its boot
 abbrev pub source_stops_at_commit : List Act
 source_stops_at_commit =
-    Asks (host 0) (codes "root") (Edit (Conf (CreatePipeQueue (codes "link") None None false (Some (typed (codes "batch") (codes "beta"))))))
-    ∷ Asks (host 0) (codes "root") (Edit (Conf (EnableQueue (codes "link"))))
-    ∷ Asks (host 0) (codes "root") (Edit (Conf (StartQueue (codes "link"))))
-    ∷ Asks (host 0) (codes "ann") (submission (Some (codes "link")) (job_of (codes "ann")) (codes "date"))
+    with_link
+    ++ scripted
     ∷ Delivers 1
     ∷ Fuse (host 0) First 4 New
     ∷ Delivers 2
@@ -53,7 +49,7 @@ receiver_stops =
     ∷ Asks (host 0) (codes "root") (Edit (Conf (AddDestination (typed (codes "batch") (codes "gamma")) (codes "link"))))
     ∷ Asks (host 0) (codes "root") (Edit (Conf (EnableQueue (codes "link"))))
     ∷ Asks (host 0) (codes "root") (Edit (Conf (StartQueue (codes "link"))))
-    ∷ Asks (host 0) (codes "ann") (submission (Some (codes "link")) (job_of (codes "ann")) (codes "date"))
+    ∷ scripted
     ∷ Delivers 1
     ∷ Crashes (host 1)
     ∷ Clock 60
@@ -72,11 +68,9 @@ receiver_stops =
 -- late copies of a handover change nothing
 abbrev pub late_copies : List Act
 late_copies =
-    Asks (host 0) (codes "root") (Edit (Conf (CreatePipeQueue (codes "link") None None false (Some (typed (codes "batch") (codes "beta"))))))
-    ∷ Asks (host 0) (codes "root") (Edit (Conf (EnableQueue (codes "link"))))
-    ∷ Asks (host 0) (codes "root") (Edit (Conf (StartQueue (codes "link"))))
-    ∷ Asks (host 1) (codes "root") (Edit (Conf (StartQueue (codes "batch"))))
-    ∷ Asks (host 0) (codes "ann") (submission (Some (codes "link")) (job_of (codes "ann")) (codes "date"))
+    with_link
+    ++ Asks (host 1) (codes "root") (Edit (Conf (StartQueue (codes "batch"))))
+    ∷ scripted
     ∷ Delivers 1
     ∷ Delivers 2
     ∷ Delivers 3
@@ -92,10 +86,8 @@ late_copies =
 -- a request is deleted while it is offered
 abbrev pub deletion_in_doubt : List Act
 deletion_in_doubt =
-    Asks (host 0) (codes "root") (Edit (Conf (CreatePipeQueue (codes "link") None None false (Some (typed (codes "batch") (codes "beta"))))))
-    ∷ Asks (host 0) (codes "root") (Edit (Conf (EnableQueue (codes "link"))))
-    ∷ Asks (host 0) (codes "root") (Edit (Conf (StartQueue (codes "link"))))
-    ∷ Asks (host 0) (codes "ann") (submission (Some (codes "link")) (job_of (codes "ann")) (codes "date"))
+    with_link
+    ++ scripted
     ∷ Delivers 1
     ∷ Asks (host 0) (codes "ann") (Delete (named 1 (codes "alpha")) false)
     ∷ Delivers 2
@@ -112,7 +104,7 @@ all_destinations_refuse =
     ∷ Asks (host 0) (codes "root") (Edit (Conf (StartQueue (codes "link"))))
     ∷ Asks (host 1) (codes "root") (Edit (Conf (DisableQueue (codes "batch"))))
     ∷ Asks (host 2) (codes "root") (Edit (Access (SetNoAccess (codes "batch"))))
-    ∷ Asks (host 0) (codes "ann") (submission (Some (codes "link")) (job_of (codes "ann")) (codes "date"))
+    ∷ scripted
     ∷ Delivers 1
     ∷ Delivers 2
     ∷ Delivers 3

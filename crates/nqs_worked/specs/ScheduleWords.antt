@@ -1,5 +1,5 @@
--- Words for schedules.
-use Rattle.std.specs.Prelude.{ℕ, true, false, List, [], ◌∷◌, map, flat_map, codes, Option, None, Some}
+-- Words for schedules and their transcripts.
+use Rattle.std.specs.Prelude.{ℕ, true, false, List, [], ◌∷◌, ◌++◌, map, flat_map, replicate, codes, Option, None, Some}
 use Rattle.nqs_rules.specs.Format.{no_limits}
 use Rattle.nqs_rules.specs.World.{Act, Asks, Fuse, Boots, Shows, seen_of}
 use Rattle.nqs_rules.specs.Run.{run_of}
@@ -17,6 +17,8 @@ use Rattle.nqs_types.specs.declared.world.Which.{Which}
 use Rattle.nqs_types.specs.declared.event.Command.{Command}
 use Rattle.nqs_types.specs.declared.event.Command.TheVariants.{Submit, Edit as EditOf, UnreadWords}
 use Rattle.nqs_types.specs.declared.edit.Edit.{Edit}
+use Rattle.nqs_types.specs.declared.edit.Edit.TheVariants.{Conf}
+use Rattle.nqs_types.specs.declared.edit.ConfEdit.TheVariants.{CreatePipeQueue, EnableQueue, StartQueue}
 
 -- the host at this place of its site, from 0 on
 abbrev pub host : ℕ → HostId
@@ -76,6 +78,40 @@ edits e = Asks (host 0) (codes "root") (EditOf e)
 -- a submission on the first host, to a queue
 abbrev pub submits : List ℕ → List ℕ → Act
 submits user queue = Asks (host 0) user (submission (Some queue) (job_of user) [])
+
+-- a pipe queue of the first host goes to the second
+abbrev pub with_link : List Act
+with_link =
+    edits (Conf (CreatePipeQueue (codes "link") None None false (Some (typed (codes "batch") (codes "beta")))))
+    ∷ edits (Conf (EnableQueue (codes "link")))
+    ∷ edits (Conf (StartQueue (codes "link")))
+    ∷ []
+
+-- a submission with a script, to the link
+abbrev pub scripted : Act
+scripted = Asks (host 0) (codes "ann") (submission (Some (codes "link")) (job_of (codes "ann")) (codes "date"))
+
+-- so many edits are done
+abbrev pub done : ℕ → List (List ℕ)
+done count = replicate count (codes "Done.")
+
+-- the first request is offered over the link
+abbrev pub first_offered : List (List ℕ)
+first_offered = codes "Request 1.alpha submitted to queue: link." ∷ codes "packet 1 alpha beta OFFER 1" ∷ []
+
+-- and taken, each packet once
+abbrev pub first_taken : List (List ℕ)
+first_taken = first_offered ++ codes "packet 2 beta alpha READY 1" ∷ codes "packet 3 alpha beta COMMIT 1" ∷ codes "packet 4 beta alpha DONE 1" ∷ []
+
+-- three requests are offered over the link, before any answer
+abbrev pub three_offered : List (List ℕ)
+three_offered =
+    first_offered
+    ++ codes "Request 2.alpha submitted to queue: link."
+    ∷ codes "packet 2 alpha beta OFFER 2"
+    ∷ codes "Request 3.alpha submitted to queue: link."
+    ∷ codes "packet 3 alpha beta OFFER 3"
+    ∷ []
 
 -- the transcript of a run of a new network
 abbrev pub told : List (List ℕ) → List Act → List ℕ

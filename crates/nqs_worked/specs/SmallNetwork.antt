@@ -1,7 +1,7 @@
 -- Short schedules of two hosts: handovers and stages.
-use Rattle.std.specs.Prelude.{false, List, [], ◌∷◌, codes, None, Some}
+use Rattle.std.specs.Prelude.{false, List, [], ◌∷◌, codes, None, Some, ◌++◌}
 use Rattle.nqs_rules.specs.World.{Act, Asks, Ends, Delivers, Newest, Ticks, Clock, Crashes, Boots, Shows}
-use Rattle.nqs_worked.specs.ScheduleWords.{host, request, named, typed, job_of, submission, edits, submits}
+use Rattle.nqs_worked.specs.ScheduleWords.{host, request, named, typed, job_of, submission, edits, submits, with_link, scripted}
 use Rattle.nqs_types.specs.declared.event.Command.TheVariants.{Edit, Delete}
 use Rattle.nqs_types.specs.declared.edit.Edit.TheVariants.{Conf, Limits, Access, Rows}
 use Rattle.nqs_types.specs.declared.edit.ConfEdit.TheVariants.{CreateBatchQueue, CreatePipeQueue, DeleteQueue, EnableQueue, DisableQueue, StartQueue}
@@ -13,10 +13,8 @@ use Rattle.nqs_types.specs.declared.edit.RowsEdit.TheVariants.{HoldRequest, Rele
 -- a purge drops queued requests, held ones too, and leaves those that run or are on their way
 abbrev pub purge_keeps_what_is_active : List Act
 purge_keeps_what_is_active =
-    edits (Conf (CreatePipeQueue (codes "link") None None false (Some (typed (codes "batch") (codes "beta")))))
-    ∷ edits (Conf (EnableQueue (codes "link")))
-    ∷ edits (Conf (StartQueue (codes "link")))
-    ∷ edits (Conf (StartQueue (codes "batch")))
+    with_link
+    ++ edits (Conf (StartQueue (codes "batch")))
     ∷ submits (codes "ann") (codes "link")
     ∷ submits (codes "ann") (codes "link")
     ∷ submits (codes "ann") (codes "link")
@@ -40,10 +38,8 @@ purge_keeps_what_is_active =
 abbrev pub newest_packet_arrives : List Act
 newest_packet_arrives =
     Newest (host 0) (host 1)
-    ∷ edits (Conf (CreatePipeQueue (codes "link") None None false (Some (typed (codes "batch") (codes "beta")))))
-    ∷ edits (Conf (EnableQueue (codes "link")))
-    ∷ edits (Conf (StartQueue (codes "link")))
-    ∷ submits (codes "ann") (codes "link")
+    ∷ with_link
+    ++ submits (codes "ann") (codes "link")
     ∷ Newest (host 1) (host 0)
     ∷ Newest (host 0) (host 1)
     ∷ Newest (host 0) (host 1)
@@ -60,10 +56,8 @@ newest_packet_arrives =
 -- promises, closed numbers and committed handovers outlive a boot
 abbrev pub packets_repeat_after_boots : List Act
 packets_repeat_after_boots =
-    edits (Conf (CreatePipeQueue (codes "link") None None false (Some (typed (codes "batch") (codes "beta")))))
-    ∷ edits (Conf (EnableQueue (codes "link")))
-    ∷ edits (Conf (StartQueue (codes "link")))
-    ∷ Asks (host 0) (codes "ann") (submission (Some (codes "link")) (job_of (codes "ann")) (codes "date"))
+    with_link
+    ++ scripted
     ∷ Delivers 1
     ∷ Crashes (host 1)
     ∷ Boots (host 1)
@@ -92,10 +86,8 @@ packets_repeat_after_boots =
 -- outputs go back in stages, one at a time, and each makes one file however often it comes
 abbrev pub stages_repeat : List Act
 stages_repeat =
-    edits (Conf (CreatePipeQueue (codes "link") None None false (Some (typed (codes "batch") (codes "beta")))))
-    ∷ edits (Conf (EnableQueue (codes "link")))
-    ∷ edits (Conf (StartQueue (codes "link")))
-    ∷ Asks (host 1) (codes "root") (Edit (Conf (StartQueue (codes "batch"))))
+    with_link
+    ++ Asks (host 1) (codes "root") (Edit (Conf (StartQueue (codes "batch"))))
     ∷ submits (codes "ann") (codes "link")
     ∷ Delivers 1
     ∷ Delivers 2
@@ -120,10 +112,8 @@ stages_repeat =
 -- number
 abbrev pub peer_is_silent : List Act
 peer_is_silent =
-    edits (Conf (CreatePipeQueue (codes "link") None None false (Some (typed (codes "batch") (codes "beta")))))
-    ∷ edits (Conf (EnableQueue (codes "link")))
-    ∷ edits (Conf (StartQueue (codes "link")))
-    ∷ submits (codes "ann") (codes "link")
+    with_link
+    ++ submits (codes "ann") (codes "link")
     ∷ Clock 59
     ∷ Ticks (host 0)
     ∷ Clock 60
@@ -185,10 +175,8 @@ offers_are_refused =
 -- a request goes to another host and back, and a late copy of its first offer is refused there
 abbrev pub request_comes_back : List Act
 request_comes_back =
-    edits (Conf (CreatePipeQueue (codes "link") None None false (Some (typed (codes "batch") (codes "beta")))))
-    ∷ edits (Conf (EnableQueue (codes "link")))
-    ∷ edits (Conf (StartQueue (codes "link")))
-    ∷ Asks (host 1) (codes "root") (Edit (Conf (CreatePipeQueue (codes "home") None None false (Some (typed (codes "batch") (codes "alpha"))))))
+    with_link
+    ++ Asks (host 1) (codes "root") (Edit (Conf (CreatePipeQueue (codes "home") None None false (Some (typed (codes "batch") (codes "alpha"))))))
     ∷ Asks (host 1) (codes "root") (Edit (Conf (EnableQueue (codes "home"))))
     ∷ Asks (host 1) (codes "root") (Edit (Conf (StartQueue (codes "home"))))
     ∷ edits (Conf (AddDestination (typed (codes "home") (codes "beta")) (codes "link")))
@@ -213,10 +201,8 @@ request_comes_back =
 -- elsewhere
 abbrev pub promises_count_for_a_queue : List Act
 promises_count_for_a_queue =
-    edits (Conf (CreatePipeQueue (codes "link") None None false (Some (typed (codes "batch") (codes "beta")))))
-    ∷ edits (Conf (EnableQueue (codes "link")))
-    ∷ edits (Conf (StartQueue (codes "link")))
-    ∷ Asks (host 1) (codes "root") (Edit (Conf (CreateBatchQueue (codes "night") None None false)))
+    with_link
+    ++ Asks (host 1) (codes "root") (Edit (Conf (CreateBatchQueue (codes "night") None None false)))
     ∷ Asks (host 1) (codes "root") (Edit (Conf (EnableQueue (codes "night"))))
     ∷ edits (Conf (AddDestination (typed (codes "night") (codes "beta")) (codes "link")))
     ∷ edits (Conf (RemoveDestination (typed (codes "batch") (codes "beta")) (codes "link")))

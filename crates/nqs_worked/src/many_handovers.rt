@@ -1,24 +1,16 @@
 //! Runs of two hosts that are computed, in which several handovers are open at once.
-ghost use Rattle.std.specs.Prelude.{◌≡◌, codes, [], ◌∷◌};
+ghost use Rattle.std.specs.Prelude.{◌≡◌, codes, [], ◌∷◌, ◌++◌};
 ghost use Rattle.nqs_rules.specs.Transcript.{lines};
 ghost use Rattle.nqs_worked.specs.ManyHandovers.{ninth_waits, offers_cross, one_of_three_is_deleted, several_outlive_boots, silent_offers_are_passed};
-ghost use Rattle.nqs_worked.specs.ScheduleWords.{told, two_hosts};
+ghost use Rattle.nqs_worked.specs.ScheduleWords.{done, three_offered, told, two_hosts};
 
 /// The offer of the third of three requests comes first and is taken up to its end. That of the
 /// first one, which comes behind, is promised all the same.
 pub fn offers_cross()
     ensures { told two_hosts offers_cross ≡ lines (
-        codes "Done."
-        ∷ codes "Done."
-        ∷ codes "Done."
-        ∷ codes "Done."
-        ∷ codes "Request 1.alpha submitted to queue: link."
-        ∷ codes "packet 1 alpha beta OFFER 1"
-        ∷ codes "Request 2.alpha submitted to queue: link."
-        ∷ codes "packet 2 alpha beta OFFER 2"
-        ∷ codes "Request 3.alpha submitted to queue: link."
-        ∷ codes "packet 3 alpha beta OFFER 3"
-        ∷ codes "packet 4 beta alpha READY 3"
+        done 4
+        ++ three_offered
+        ++ codes "packet 4 beta alpha READY 3"
         ∷ codes "packet 5 alpha beta COMMIT 3"
         ∷ codes "packet 6 beta alpha DONE 3"
         ∷ codes "packet 7 beta alpha READY 1"
@@ -33,17 +25,9 @@ pub fn offers_cross()
 /// eight handovers is over. The offers are answered in the worst order, and none twice.
 pub fn ninth_waits()
     ensures { told two_hosts ninth_waits ≡ lines (
-        codes "Done."
-        ∷ codes "Done."
-        ∷ codes "Done."
-        ∷ codes "Done."
-        ∷ codes "Request 1.alpha submitted to queue: link."
-        ∷ codes "packet 1 alpha beta OFFER 1"
-        ∷ codes "Request 2.alpha submitted to queue: link."
-        ∷ codes "packet 2 alpha beta OFFER 2"
-        ∷ codes "Request 3.alpha submitted to queue: link."
-        ∷ codes "packet 3 alpha beta OFFER 3"
-        ∷ codes "Request 4.alpha submitted to queue: link."
+        done 4
+        ++ three_offered
+        ++ codes "Request 4.alpha submitted to queue: link."
         ∷ codes "packet 4 alpha beta OFFER 4"
         ∷ codes "Request 5.alpha submitted to queue: link."
         ∷ codes "packet 5 alpha beta OFFER 5"
@@ -87,17 +71,9 @@ pub fn ninth_waits()
 /// what it promised of the three, and says of a late copy that it is over.
 pub fn silent_offers_are_passed()
     ensures { told two_hosts silent_offers_are_passed ≡ lines (
-        codes "Done."
-        ∷ codes "Done."
-        ∷ codes "Done."
-        ∷ codes "Done."
-        ∷ codes "Request 1.alpha submitted to queue: link."
-        ∷ codes "packet 1 alpha beta OFFER 1"
-        ∷ codes "Request 2.alpha submitted to queue: link."
-        ∷ codes "packet 2 alpha beta OFFER 2"
-        ∷ codes "Request 3.alpha submitted to queue: link."
-        ∷ codes "packet 3 alpha beta OFFER 3"
-        ∷ codes "Request 4.alpha submitted to queue: link."
+        done 4
+        ++ three_offered
+        ++ codes "Request 4.alpha submitted to queue: link."
         ∷ codes "packet 4 alpha beta OFFER 4"
         ∷ codes "Request 5.alpha submitted to queue: link."
         ∷ codes "packet 5 alpha beta OFFER 5"
@@ -123,17 +99,9 @@ pub fn silent_offers_are_passed()
 /// The handovers before and behind it go on.
 pub fn one_of_three_is_deleted()
     ensures { told two_hosts one_of_three_is_deleted ≡ lines (
-        codes "Done."
-        ∷ codes "Done."
-        ∷ codes "Done."
-        ∷ codes "Done."
-        ∷ codes "Request 1.alpha submitted to queue: link."
-        ∷ codes "packet 1 alpha beta OFFER 1"
-        ∷ codes "Request 2.alpha submitted to queue: link."
-        ∷ codes "packet 2 alpha beta OFFER 2"
-        ∷ codes "Request 3.alpha submitted to queue: link."
-        ∷ codes "packet 3 alpha beta OFFER 3"
-        ∷ codes "packet 4 beta alpha READY 2"
+        done 4
+        ++ three_offered
+        ++ codes "packet 4 beta alpha READY 2"
         ∷ codes "Request 2.alpha has been deleted."
         ∷ codes "packet 5 alpha beta ABORT 2"
         ∷ codes "packet 6 beta alpha DONE 2"
@@ -149,17 +117,9 @@ pub fn one_of_three_is_deleted()
 /// host.
 pub fn several_outlive_boots()
     ensures { told two_hosts several_outlive_boots ≡ lines (
-        codes "Done."
-        ∷ codes "Done."
-        ∷ codes "Done."
-        ∷ codes "Done."
-        ∷ codes "Request 1.alpha submitted to queue: link."
-        ∷ codes "packet 1 alpha beta OFFER 1"
-        ∷ codes "Request 2.alpha submitted to queue: link."
-        ∷ codes "packet 2 alpha beta OFFER 2"
-        ∷ codes "Request 3.alpha submitted to queue: link."
-        ∷ codes "packet 3 alpha beta OFFER 3"
-        ∷ codes "packet 4 beta alpha READY 3"
+        done 4
+        ++ three_offered
+        ++ codes "packet 4 beta alpha READY 3"
         ∷ codes "packet 5 alpha beta COMMIT 3"
         ∷ codes "packet 6 beta alpha DONE 3"
         ∷ codes "stop beta"

@@ -1,19 +1,16 @@
 //! Runs of several hosts that are computed: the transcript of each schedule.
-ghost use Rattle.std.specs.Prelude.{◌≡◌, codes, [], ◌∷◌};
+ghost use Rattle.std.specs.Prelude.{◌≡◌, codes, [], ◌∷◌, ◌++◌};
 ghost use Rattle.nqs_rules.specs.Transcript.{lines};
-ghost use Rattle.nqs_worked.specs.ScheduleWords.{told};
+ghost use Rattle.nqs_worked.specs.ScheduleWords.{done, first_offered, first_taken, told};
 ghost use Rattle.nqs_worked.specs.Network.{handover, source_stops_at_commit, receiver_stops, late_copies, deletion_in_doubt, all_destinations_refuse};
 ghost use Rattle.nqs_worked.specs.Network.{site_of_two};
 
 /// A handover, with each packet repeated.
 pub fn handover()
     ensures { told (codes "alpha" ∷ codes "beta" ∷ []) handover ≡ lines (
-        codes "Done."
-        ∷ codes "Done."
-        ∷ codes "Done."
-        ∷ codes "Request 1.alpha submitted to queue: link."
-        ∷ codes "packet 1 alpha beta OFFER 1"
-        ∷ codes "packet 2 beta alpha READY 1"
+        done 3
+        ++ first_offered
+        ++ codes "packet 2 beta alpha READY 1"
         ∷ codes "packet 3 beta alpha READY 1"
         ∷ codes "packet 4 beta alpha READY 1"
         ∷ codes "packet 5 alpha beta COMMIT 1"
@@ -27,12 +24,9 @@ pub fn handover()
 /// The source stops as it commits, and says so after its boot.
 pub fn source_stops_at_commit()
     ensures { told (codes "alpha" ∷ codes "beta" ∷ []) source_stops_at_commit ≡ lines (
-        codes "Done."
-        ∷ codes "Done."
-        ∷ codes "Done."
-        ∷ codes "Request 1.alpha submitted to queue: link."
-        ∷ codes "packet 1 alpha beta OFFER 1"
-        ∷ codes "packet 2 beta alpha READY 1"
+        done 3
+        ++ first_offered
+        ++ codes "packet 2 beta alpha READY 1"
         ∷ codes "stop alpha"
         ∷ codes "table 1"
         ∷ codes "beta batch 1.alpha ARRIVING ann starts 0 lost 0"
@@ -47,13 +41,9 @@ pub fn source_stops_at_commit()
 /// The receiver of an offer stops, and another destination takes the request.
 pub fn receiver_stops()
     ensures { told (codes "alpha" ∷ codes "beta" ∷ codes "gamma" ∷ []) receiver_stops ≡ lines (
-        codes "Done."
-        ∷ codes "Done."
-        ∷ codes "Done."
-        ∷ codes "Done."
-        ∷ codes "Request 1.alpha submitted to queue: link."
-        ∷ codes "packet 1 alpha beta OFFER 1"
-        ∷ codes "packet 2 beta alpha READY 1"
+        done 4
+        ++ first_offered
+        ++ codes "packet 2 beta alpha READY 1"
         ∷ codes "stop beta"
         ∷ codes "packet 3 alpha gamma OFFER 1"
         ∷ codes "packet 4 gamma alpha READY 1"
@@ -70,16 +60,9 @@ pub fn receiver_stops()
 /// Late copies of a handover change nothing.
 pub fn late_copies()
     ensures { told (codes "alpha" ∷ codes "beta" ∷ []) late_copies ≡ lines (
-        codes "Done."
-        ∷ codes "Done."
-        ∷ codes "Done."
-        ∷ codes "Done."
-        ∷ codes "Request 1.alpha submitted to queue: link."
-        ∷ codes "packet 1 alpha beta OFFER 1"
-        ∷ codes "packet 2 beta alpha READY 1"
-        ∷ codes "packet 3 alpha beta COMMIT 1"
-        ∷ codes "packet 4 beta alpha DONE 1"
-        ∷ codes "launch beta 1.alpha 1"
+        done 4
+        ++ first_taken
+        ++ codes "launch beta 1.alpha 1"
         ∷ codes "ended beta 1.alpha 1 0"
         ∷ codes "packet 5 beta alpha DONE 1"
         ∷ codes "packet 6 alpha beta ABORT 1"
@@ -91,12 +74,9 @@ pub fn late_copies()
 /// A request is deleted while it is offered.
 pub fn deletion_in_doubt()
     ensures { told (codes "alpha" ∷ codes "beta" ∷ []) deletion_in_doubt ≡ lines (
-        codes "Done."
-        ∷ codes "Done."
-        ∷ codes "Done."
-        ∷ codes "Request 1.alpha submitted to queue: link."
-        ∷ codes "packet 1 alpha beta OFFER 1"
-        ∷ codes "packet 2 beta alpha READY 1"
+        done 3
+        ++ first_offered
+        ++ codes "packet 2 beta alpha READY 1"
         ∷ codes "Request 1.alpha has been deleted."
         ∷ codes "packet 3 alpha beta ABORT 1"
         ∷ codes "table 0"
@@ -106,15 +86,9 @@ pub fn deletion_in_doubt()
 /// A request that all destinations refuse is held until it is released.
 pub fn all_destinations_refuse()
     ensures { told (codes "alpha" ∷ codes "beta" ∷ codes "gamma" ∷ []) all_destinations_refuse ≡ lines (
-        codes "Done."
-        ∷ codes "Done."
-        ∷ codes "Done."
-        ∷ codes "Done."
-        ∷ codes "Done."
-        ∷ codes "Done."
-        ∷ codes "Request 1.alpha submitted to queue: link."
-        ∷ codes "packet 1 alpha beta OFFER 1"
-        ∷ codes "packet 2 beta alpha REFUSED 1"
+        done 6
+        ++ first_offered
+        ++ codes "packet 2 beta alpha REFUSED 1"
         ∷ codes "packet 3 alpha gamma OFFER 1"
         ∷ codes "packet 4 gamma alpha REFUSED 1"
         ∷ codes "table 1"
@@ -133,19 +107,8 @@ pub fn all_destinations_refuse()
 /// A site of two hosts, with outputs that come back.
 pub fn site_of_two()
     ensures { told (codes "cray" ∷ codes "front" ∷ []) site_of_two ≡ lines (
-        codes "Done."
-        ∷ codes "Done."
-        ∷ codes "Done."
-        ∷ codes "Done."
-        ∷ codes "Done."
-        ∷ codes "Done."
-        ∷ codes "Done."
-        ∷ codes "Done."
-        ∷ codes "Done."
-        ∷ codes "Done."
-        ∷ codes "Done."
-        ∷ codes "Done."
-        ∷ codes "Request 1.front submitted to queue: run."
+        done 12
+        ++ codes "Request 1.front submitted to queue: run."
         ∷ codes "packet 1 front cray OFFER 1"
         ∷ codes "Request 2.front submitted to queue: lp."
         ∷ codes "print front 2.front 1 laser"

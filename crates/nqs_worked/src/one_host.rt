@@ -1,7 +1,7 @@
 //! Runs of one host that are computed: the transcript of each schedule.
-ghost use Rattle.std.specs.Prelude.{◌≡◌, codes, [], ◌∷◌, replicate};
+ghost use Rattle.std.specs.Prelude.{◌≡◌, codes, [], ◌∷◌, ◌++◌, replicate};
 ghost use Rattle.nqs_rules.specs.Transcript.{lines};
-ghost use Rattle.nqs_worked.specs.ScheduleWords.{told, one_host, stops_told, not_kept, kept};
+ghost use Rattle.nqs_worked.specs.ScheduleWords.{done, kept, not_kept, one_host, stops_told, told};
 ghost use Rattle.nqs_types.specs.declared.world.Which.TheVariants.{First, Spool};
 ghost use Rattle.nqs_worked.specs.OneHost.{submission_is_shown, priority_starts_first, complex_limits_its_queues, limit_counts_what_runs, request_is_lost};
 ghost use Rattle.nqs_worked.specs.OneHost.{request_starts_again, boot_stops, commands_are_refused, ranks_and_lists, words_are_refused, requests_are_listed};
@@ -35,15 +35,8 @@ pub fn priority_starts_first()
 /// A complex limits its queues together.
 pub fn complex_limits_its_queues()
     ensures { told one_host complex_limits_its_queues ≡ lines (
-        codes "Done."
-        ∷ codes "Done."
-        ∷ codes "Done."
-        ∷ codes "Done."
-        ∷ codes "Done."
-        ∷ codes "Done."
-        ∷ codes "Done."
-        ∷ codes "Done."
-        ∷ codes "Request 1.alpha submitted to queue: batch."
+        done 8
+        ++ codes "Request 1.alpha submitted to queue: batch."
         ∷ codes "launch alpha 1.alpha 1"
         ∷ codes "Request 2.alpha submitted to queue: night."
         ∷ codes "table 2"
@@ -169,13 +162,8 @@ pub fn requests_are_listed()
 /// A device runs requests with its forms, and a file is written.
 pub fn devices_and_forms()
     ensures { told one_host devices_and_forms ≡ lines (
-        codes "Done."
-        ∷ codes "Done."
-        ∷ codes "Done."
-        ∷ codes "Done."
-        ∷ codes "Done."
-        ∷ codes "Done."
-        ∷ codes "Request 1.alpha submitted to queue: lp."
+        done 6
+        ++ codes "Request 1.alpha submitted to queue: lp."
         ∷ codes "Request 2.alpha submitted to queue: lp."
         ∷ codes "print alpha 2.alpha 1 laser"
         ∷ codes "Refused 27: device laser is busy."
@@ -192,14 +180,8 @@ pub fn devices_and_forms()
 /// A request that two pipe queues hand to each other is held after 32 moves.
 pub fn request_goes_round()
     ensures { told one_host request_goes_round ≡ lines (
-        codes "Done."
-        ∷ codes "Done."
-        ∷ codes "Done."
-        ∷ codes "Done."
-        ∷ codes "Done."
-        ∷ codes "Done."
-        ∷ codes "Done."
-        ∷ codes "Request 1.alpha submitted to queue: ping."
+        done 7
+        ++ codes "Request 1.alpha submitted to queue: ping."
         ∷ codes "table 1"
         ∷ codes "alpha ping 1.alpha HELD ann starts 0 lost 0"
         ∷ []) }
@@ -208,11 +190,8 @@ pub fn request_goes_round()
 /// A request that its only destination refuses is held until it is released.
 pub fn local_destination_refuses()
     ensures { told one_host local_destination_refuses ≡ lines (
-        codes "Done."
-        ∷ codes "Done."
-        ∷ codes "Done."
-        ∷ codes "Done."
-        ∷ codes "Request 1.alpha submitted to queue: link."
+        done 4
+        ++ codes "Request 1.alpha submitted to queue: link."
         ∷ codes "table 1"
         ∷ codes "alpha link 1.alpha HELD ann starts 0 lost 0"
         ∷ codes "Done."

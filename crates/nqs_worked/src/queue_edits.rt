@@ -1,7 +1,7 @@
 //! Runs of one host that are computed: edits of queues, complexes, devices and users, and lists.
-ghost use Rattle.std.specs.Prelude.{◌≡◌, codes, [], ◌∷◌};
+ghost use Rattle.std.specs.Prelude.{◌≡◌, codes, [], ◌∷◌, ◌++◌};
 ghost use Rattle.nqs_rules.specs.Transcript.{lines};
-ghost use Rattle.nqs_worked.specs.ScheduleWords.{told, one_host};
+ghost use Rattle.nqs_worked.specs.ScheduleWords.{done, one_host, told};
 ghost use Rattle.nqs_worked.specs.QueueEdits.{complexes_are_edited, queue_is_deleted, destinations_are_edited, users_are_listed, lists_are_shown};
 ghost use Rattle.nqs_worked.specs.QueueEdits.{devices_are_edited};
 
@@ -37,12 +37,8 @@ pub fn queue_is_deleted()
         codes "Done."
         ∷ codes "Refused 9: queue night exists."
         ∷ codes "Refused 9: queue night exists."
-        ∷ codes "Done."
-        ∷ codes "Done."
-        ∷ codes "Done."
-        ∷ codes "Done."
-        ∷ codes "Done."
-        ∷ codes "Request 1.alpha submitted to queue: night."
+        ∷ done 5
+        ++ codes "Request 1.alpha submitted to queue: night."
         ∷ codes "Refused 26: queue night holds 1 requests."
         ∷ codes "Request 1.alpha has been deleted."
         ∷ codes "Done."
@@ -54,11 +50,8 @@ pub fn queue_is_deleted()
         ∷ codes "Refused 8: no default queue."
         ∷ codes "Refused 3: no queue night."
         ∷ codes "Refused 3: no queue night."
-        ∷ codes "Done."
-        ∷ codes "Done."
-        ∷ codes "Done."
-        ∷ codes "Done."
-        ∷ codes "global_limit 2"
+        ∷ done 4
+        ++ codes "global_limit 2"
         ∷ codes "patience 5"
         ∷ codes "retry_wait 7"
         ∷ codes "default_queue batch"
@@ -152,12 +145,8 @@ pub fn lists_are_shown()
         ∷ codes "batch batch enabled stopped 31 1"
         ∷ codes "lp device enabled stopped 40 2"
         ∷ codes "link pipe disabled stopped 31 1"
-        ∷ codes "Done."
-        ∷ codes "Done."
-        ∷ codes "Done."
-        ∷ codes "Done."
-        ∷ codes "Done."
-        ∷ codes "Request 1.alpha submitted to queue: link."
+        ∷ done 5
+        ++ codes "Request 1.alpha submitted to queue: link."
         ∷ codes "print alpha 1.alpha 1 laser"
         ∷ codes "laser plain enabled 1.alpha"
         ∷ codes "batch batch enabled stopped 31 1"
@@ -176,10 +165,8 @@ pub fn devices_are_edited()
         codes "Done."
         ∷ codes "Done."
         ∷ codes "Refused 11: device a exists."
-        ∷ codes "Done."
-        ∷ codes "Done."
-        ∷ codes "Done."
-        ∷ codes "Refused 16: already a member."
+        ∷ done 3
+        ++ codes "Refused 16: already a member."
         ∷ codes "Refused 5: no device z."
         ∷ codes "Refused 3: no queue nope."
         ∷ codes "Refused 12: wrong kind of queue."

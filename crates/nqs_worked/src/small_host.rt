@@ -1,7 +1,7 @@
 //! Runs of one host that are computed: requests, limits and starts.
-ghost use Rattle.std.specs.Prelude.{◌≡◌, codes, [], ◌∷◌};
+ghost use Rattle.std.specs.Prelude.{◌≡◌, codes, [], ◌∷◌, ◌++◌};
 ghost use Rattle.nqs_rules.specs.Transcript.{lines};
-ghost use Rattle.nqs_worked.specs.ScheduleWords.{told, one_host};
+ghost use Rattle.nqs_worked.specs.ScheduleWords.{done, one_host, told};
 ghost use Rattle.nqs_worked.specs.SmallHost.{owner_has_a_limit, request_states_too_much, all_batch_queues_have_a_limit, jobs_are_told_to_end};
 ghost use Rattle.nqs_worked.specs.SmallHost.{requests_are_held_and_moved, request_waits_for_its_start, pipe_queue_tries_the_next, queues_have_priorities};
 
@@ -9,10 +9,8 @@ ghost use Rattle.nqs_worked.specs.SmallHost.{requests_are_held_and_moved, reques
 /// one.
 pub fn owner_has_a_limit()
     ensures { told one_host owner_has_a_limit ≡ lines (
-        codes "Done."
-        ∷ codes "Done."
-        ∷ codes "Done."
-        ∷ codes "Request 1.alpha submitted to queue: batch."
+        done 3
+        ++ codes "Request 1.alpha submitted to queue: batch."
         ∷ codes "launch alpha 1.alpha 1"
         ∷ codes "Request 2.alpha submitted to queue: batch."
         ∷ codes "Request 3.alpha submitted to queue: batch."
@@ -50,18 +48,8 @@ pub fn request_states_too_much()
 /// The running requests of all batch queues together have a limit, those of other queues none.
 pub fn all_batch_queues_have_a_limit()
     ensures { told one_host all_batch_queues_have_a_limit ≡ lines (
-        codes "Done."
-        ∷ codes "Done."
-        ∷ codes "Done."
-        ∷ codes "Done."
-        ∷ codes "Done."
-        ∷ codes "Done."
-        ∷ codes "Done."
-        ∷ codes "Done."
-        ∷ codes "Done."
-        ∷ codes "Done."
-        ∷ codes "Done."
-        ∷ codes "Request 1.alpha submitted to queue: lp."
+        done 11
+        ++ codes "Request 1.alpha submitted to queue: lp."
         ∷ codes "print alpha 1.alpha 1 laser"
         ∷ codes "Request 2.alpha submitted to queue: batch."
         ∷ codes "launch alpha 2.alpha 1"
@@ -172,22 +160,15 @@ pub fn request_waits_for_its_start()
 /// Destinations of this host are tried in order within one event, and a run limit of 0 stops that.
 pub fn pipe_queue_tries_the_next()
     ensures { told one_host pipe_queue_tries_the_next ≡ lines (
-        codes "Done."
-        ∷ codes "Done."
-        ∷ codes "Done."
-        ∷ codes "Done."
-        ∷ codes "Done."
-        ∷ codes "Done."
-        ∷ codes "Request 1.alpha submitted to queue: link."
+        done 6
+        ++ codes "Request 1.alpha submitted to queue: link."
         ∷ codes "table 1"
         ∷ codes "alpha link 1.alpha QUEUED ann starts 0 lost 0"
         ∷ codes "Done."
         ∷ codes "table 1"
         ∷ codes "alpha batch 1.alpha QUEUED ann starts 0 lost 0"
-        ∷ codes "Done."
-        ∷ codes "Done."
-        ∷ codes "Done."
-        ∷ codes "Request 2.alpha submitted to queue: empty."
+        ∷ done 3
+        ++ codes "Request 2.alpha submitted to queue: empty."
         ∷ codes "table 2"
         ∷ codes "alpha batch 1.alpha QUEUED ann starts 0 lost 0"
         ∷ codes "alpha empty 2.alpha QUEUED ann starts 0 lost 0"
@@ -198,12 +179,8 @@ pub fn pipe_queue_tries_the_next()
 /// start keeps back no one.
 pub fn queues_have_priorities()
     ensures { told one_host queues_have_priorities ≡ lines (
-        codes "Done."
-        ∷ codes "Done."
-        ∷ codes "Done."
-        ∷ codes "Done."
-        ∷ codes "Done."
-        ∷ codes "Request 1.alpha submitted to queue: night."
+        done 5
+        ++ codes "Request 1.alpha submitted to queue: night."
         ∷ codes "Request 2.alpha submitted to queue: night."
         ∷ codes "Request 3.alpha submitted to queue: batch."
         ∷ codes "Request 4.alpha submitted to queue: batch."

@@ -1,7 +1,7 @@
 //! Runs that are computed, in which it is asked why requests wait.
-ghost use Rattle.std.specs.Prelude.{◌≡◌, codes, [], ◌∷◌};
+ghost use Rattle.std.specs.Prelude.{◌≡◌, codes, [], ◌∷◌, ◌++◌};
 ghost use Rattle.nqs_rules.specs.Transcript.{lines};
-ghost use Rattle.nqs_worked.specs.ScheduleWords.{told, one_host};
+ghost use Rattle.nqs_worked.specs.ScheduleWords.{done, first_offered, one_host, told};
 ghost use Rattle.nqs_worked.specs.Waits.{a_host_says_why, destinations_say_why};
 
 /// What a host says of requests whose queue is stopped, at a limit, held, or not to start yet; of
@@ -46,13 +46,9 @@ pub fn a_host_says_why()
 /// or how long its host is waited for; and at that moment that nothing hinders.
 pub fn destinations_say_why()
     ensures { told (codes "alpha" ∷ codes "beta" ∷ codes "gamma" ∷ []) destinations_say_why ≡ lines (
-        codes "Done."
-        ∷ codes "Done."
-        ∷ codes "Done."
-        ∷ codes "Done."
-        ∷ codes "Request 1.alpha submitted to queue: link."
-        ∷ codes "packet 1 alpha beta OFFER 1"
-        ∷ codes "Request 1.alpha: it is on its way to another host."
+        done 4
+        ++ first_offered
+        ++ codes "Request 1.alpha: it is on its way to another host."
         ∷ codes "packet 2 beta alpha REFUSED 1"
         ∷ codes "packet 3 alpha gamma OFFER 1"
         ∷ codes "Request 1.alpha: no destination of queue link may be tried now."

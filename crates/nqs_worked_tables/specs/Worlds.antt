@@ -1,10 +1,10 @@
 -- Hosts of a world with fuses, packets on their way, and runs whose calls of disks are counted.
-use Rattle.std.specs.Prelude.{ℕ, false, Bool, List, [], ◌∷◌, map, length, codes, Option, None, Some}
+use Rattle.std.specs.Prelude.{ℕ, Bool, List, [], ◌∷◌, map, length, codes, Option, None, Some}
 use Rattle.nqs_rules.specs.Notes.{sights}
 use Rattle.nqs_rules.specs.World.{World, Host, Act, Asks, Ends, Fails, Writes, Leaves, Ticks, Finishes, Fuse, Crashes, Boots, Fuses, Calls, Fate, fate}
 use Rattle.nqs_rules.specs.World.{new_world, new_host}
 use Rattle.nqs_rules.specs.Run.{run, run_of}
-use Rattle.nqs_worked.specs.ScheduleWords.{host, request, typed, job_of, submission, edits, one_host, two_hosts}
+use Rattle.nqs_worked.specs.ScheduleWords.{host, request, job_of, submission, edits, one_host, two_hosts}
 use Rattle.nqs_base.specs.declared.tear.Tear.{Tear}
 use Rattle.nqs_base.specs.declared.tear.Tear.TheVariants.{Old, New}
 use Rattle.nqs_types.specs.declared.world.Which.TheVariants.{First}
@@ -12,7 +12,7 @@ use Rattle.nqs_types.specs.declared.world.Seen.{Seen}
 use Rattle.nqs_types.specs.declared.message.Message.{Message}
 use Rattle.nqs_types.specs.declared.message.Body.TheVariants as body
 use Rattle.nqs_types.specs.declared.edit.Edit.TheVariants.{Conf}
-use Rattle.nqs_types.specs.declared.edit.ConfEdit.TheVariants.{CreatePipeQueue, EnableQueue, StartQueue}
+use Rattle.nqs_types.specs.declared.edit.ConfEdit.TheVariants.{StartQueue}
 
 -- so many writes and syncs of the journal and of the spool
 abbrev pub calls : ℕ → ℕ → Calls
@@ -46,16 +46,6 @@ spool_fates puts = map (λ k. fate puts (fused_with None (Some k) New)) (1 ∷ 2
 -- a fuse of each disk
 abbrev pub first_fuses : Fuses
 first_fuses = record { root = Some 11; first = Some 12; second = Some 13; spool = Some 14 }
-
--- a pipe queue of the first host goes to the second
-abbrev pub linked : List Act → List Act
-linked acts =
-    edits (Conf (CreatePipeQueue (codes "link") None None false (Some (typed (codes "batch") (codes "beta"))))) ∷ edits (Conf (EnableQueue (codes "link")))
-    ∷ edits (Conf (StartQueue (codes "link"))) ∷ acts
-
--- a submission with a script, to the link
-abbrev pub scripted : Act
-scripted = Asks (host 0) (codes "ann") (submission (Some (codes "link")) (job_of (codes "ann")) (codes "date"))
 
 -- a submission of the first host to its batch queue, with this script
 abbrev pub with_script : List ℕ → Act

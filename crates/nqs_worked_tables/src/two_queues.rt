@@ -1,17 +1,14 @@
 //! Runs of one host with two queues, of which a purge, an abort or a complex means one.
-ghost use Rattle.std.specs.Prelude.{◌≡◌, codes, [], ◌∷◌};
+ghost use Rattle.std.specs.Prelude.{◌≡◌, codes, [], ◌∷◌, ◌++◌};
 ghost use Rattle.nqs_rules.specs.Transcript.{lines};
-ghost use Rattle.nqs_worked.specs.ScheduleWords.{told, one_host};
+ghost use Rattle.nqs_worked.specs.ScheduleWords.{done, one_host, told};
 ghost use Rattle.nqs_worked_tables.specs.TwoQueues.{one_queue_is_aborted, one_queue_is_purged, two_complexes_limit};
 
 /// An abort of one queue kills what runs there, and that alone is lost with the host.
 pub fn one_queue_is_aborted()
     ensures { told one_host one_queue_is_aborted ≡ lines (
-        codes "Done."
-        ∷ codes "Done."
-        ∷ codes "Done."
-        ∷ codes "Done."
-        ∷ codes "Request 1.alpha submitted to queue: batch."
+        done 4
+        ++ codes "Request 1.alpha submitted to queue: batch."
         ∷ codes "launch alpha 1.alpha 1"
         ∷ codes "Request 2.alpha submitted to queue: night."
         ∷ codes "launch alpha 2.alpha 1"
@@ -39,11 +36,8 @@ pub fn one_queue_is_aborted()
 /// A purge of one queue takes what waits there, held or not.
 pub fn one_queue_is_purged()
     ensures { told one_host one_queue_is_purged ≡ lines (
-        codes "Done."
-        ∷ codes "Done."
-        ∷ codes "Done."
-        ∷ codes "Done."
-        ∷ codes "Request 1.alpha submitted to queue: batch."
+        done 4
+        ++ codes "Request 1.alpha submitted to queue: batch."
         ∷ codes "Request 2.alpha submitted to queue: night."
         ∷ codes "launch alpha 2.alpha 1"
         ∷ codes "Request 3.alpha submitted to queue: batch."
@@ -67,19 +61,8 @@ pub fn one_queue_is_purged()
 /// A complex of one queue and one of both: each limits only its own.
 pub fn two_complexes_limit()
     ensures { told one_host two_complexes_limit ≡ lines (
-        codes "Done."
-        ∷ codes "Done."
-        ∷ codes "Done."
-        ∷ codes "Done."
-        ∷ codes "Done."
-        ∷ codes "Done."
-        ∷ codes "Done."
-        ∷ codes "Done."
-        ∷ codes "Done."
-        ∷ codes "Done."
-        ∷ codes "Done."
-        ∷ codes "Done."
-        ∷ codes "Request 1.alpha submitted to queue: batch."
+        done 12
+        ++ codes "Request 1.alpha submitted to queue: batch."
         ∷ codes "launch alpha 1.alpha 1"
         ∷ codes "Request 2.alpha submitted to queue: batch."
         ∷ codes "Request 3.alpha submitted to queue: night."

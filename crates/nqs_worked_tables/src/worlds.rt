@@ -14,11 +14,11 @@ ghost use Rattle.nqs_rules.specs.Format.{formatted};
 ghost use Rattle.nqs_rules.specs.World.{Asks, Ends, Fails, Writes, Leaves, Delivers, Newest, Ticks, Finishes, Clock, Fuse, Crashes, Boots, Shows, Made};
 ghost use Rattle.nqs_rules.specs.World.{StoppedBefore, StoppedAfter, no_fuses, new_host, fate, falls, burnt, spool_calls, used, stopped, body_kind};
 ghost use Rattle.nqs_rules.specs.World.{body_number, seen_output, sent_by, packet_at, newest_between, boot_output, fused, is_less_id};
-ghost use Rattle.nqs_worked.specs.ScheduleWords.{host, request, job_of, one_host, two_hosts};
+ghost use Rattle.nqs_worked.specs.ScheduleWords.{host, request, job_of, one_host, scripted, two_hosts, with_link};
 ghost use Rattle.nqs_worked.specs.Definitions.{far_carried, queued, running};
 ghost use Rattle.nqs_worked_tables.specs.Refusals.{full_house};
 ghost use Rattle.nqs_worked_tables.specs.OrderBounds.{on_the_way};
-ghost use Rattle.nqs_worked_tables.specs.Worlds.{calls, calls_after, told_after, fuses, fused_with, journal_fates, spool_fates, first_fuses, linked, scripted};
+ghost use Rattle.nqs_worked_tables.specs.Worlds.{calls, calls_after, told_after, fuses, fused_with, journal_fates, spool_fates, first_fuses};
 ghost use Rattle.nqs_worked_tables.specs.Worlds.{with_script, at_batch, sent, mail, seen_of, up_after, fuses_after, tears_after, elsewhere};
 
 /// A change makes four calls of the journal, and before them two of the spool for each stored part
@@ -31,7 +31,7 @@ pub fn calls_are_counted()
         ≡ (calls 22 2 ∷ []) ∷ (calls 22 4 ∷ []) ∷ [] }
     ensures no_outputs { calls_after one_host (at_batch (Ends (host 0) (request 1 0) 1 0 [] [] ∷ Ends (host 0) (request 1 0) 1 0 [] [] ∷ []))
         ≡ calls 22 0 ∷ [] }
-    ensures promise { map (λ acts. calls_after two_hosts (linked (scripted ∷ acts))) ([] ∷ (Delivers 1 ∷ [])
+    ensures promise { map (λ acts. calls_after two_hosts (with_link ++ scripted ∷ acts)) ([] ∷ (Delivers 1 ∷ [])
         ∷ (Delivers 1 ∷ Delivers 1 ∷ Delivers 2 ∷ Delivers 4 ∷ Delivers 5 ∷ []) ∷ [])
         ≡ (calls 26 2 ∷ calls 6 0 ∷ []) ∷ (calls 26 2 ∷ calls 10 2 ∷ []) ∷ (calls 34 2 ∷ calls 14 2 ∷ []) ∷ [] }
     ensures stops { map (λ acts. calls_after one_host (with_script (codes "date") ∷ acts)) ((Crashes (host 0) ∷ []) ∷ (Crashes (host 0) ∷ Boots (host 0) ∷ [])

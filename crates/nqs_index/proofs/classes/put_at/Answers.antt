@@ -1,8 +1,8 @@
-use Rattle.std.proofs.Common.{◌∙◌, refl, ap, sym, slice_set}
+use Rattle.std.proofs.Common.{◌-◌, ◌∙◌, refl, ap, sym, subst, slice_set}
 use Rattle.std.proofs.lemmas.Option.{same_Some}
 use Rattle.std.proofs.lemmas.Result.{on_ok_weaker, on_err_weaker}
 use Rattle.nqs_index.specs.declared.classes.ClassLine.{ClassLine}
-use Rattle.nqs_index.specs.Lines.{placed, entry_at}
+use Rattle.nqs_index.specs.Lines.{placed, entry_at, PutsBy}
 use Rattle.nqs_index.proofs.PlaceLemmas.{set_twice, set_same, key_kept}
 use Rattle.nqs_index.proofs.classes.put_at.Goals as goal
 
@@ -18,22 +18,27 @@ returns-clause-ok g c =
     let x = entry_at c.args.key c.args.id in
     let ls = c.args.classes.now.items in
     let l = c.exchange.new.value in
-    on_ok_weaker c.insert-put.result
+    on_ok_weaker c.put-put.result
     (λ is v at. c.exchange-2.ensures.items
-    ∙ ap (λ k. slice_set k c.args.place (record { class = l.class; line = c.insert-put.new.self })) c.exchange.ensures.items
+    ∙ ap (λ k. slice_set k c.args.place (record { class = l.class; line = c.put-put.new.self })) c.exchange.ensures.items
     ∙ set_twice ls c.args.place _ _
     ∙ (λ j. slice_set ls c.args.place (record { class = l.class; line = is j }))
     ∙ ap (λ (w : ClassLine). slice_set ls c.args.place (record { class = w.class; line = placed x w.line })) (same_Some l v (sym c.exchange.ensures.out ∙ at)))
-    c.insert-put.ensures.ok
+    c.put-put.ensures.ok
 
 pub returns-clause-err : goal.returns-clause-err
 returns-clause-err g c =
     let ls = c.args.classes.now.items in
     let l = c.exchange.new.value in
-    on_err_weaker c.insert-put.result
+    on_err_weaker c.put-put.result
     (λ is. c.exchange-2.ensures.items
-    ∙ ap (λ k. slice_set k c.args.place (record { class = l.class; line = c.insert-put.new.self })) c.exchange.ensures.items
+    ∙ ap (λ k. slice_set k c.args.place (record { class = l.class; line = c.put-put.new.self })) c.exchange.ensures.items
     ∙ set_twice ls c.args.place _ _
     ∙ (λ j. slice_set ls c.args.place (record { class = l.class; line = is j }))
     ∙ set_same ls c.args.place l c.exchange.ensures.out)
-    c.insert-put.ensures.err
+    c.put-put.ensures.err
+
+pub returns-clause-cost : goal.returns-clause-cost
+returns-clause-cost g c v at =
+    subst (λ (w : ClassLine). PutsBy c.args.key w.line (c.put-put.new.steps - c.args.steps.now)) (same_Some c.exchange.new.value v (sym c.exchange.ensures.out ∙ at))
+    c.put-put.ensures.cost

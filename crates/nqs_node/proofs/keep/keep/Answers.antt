@@ -87,3 +87,6 @@ returns-in-Ok-commit-clause-makes g c =
       calls = subst (λ (h : State Extent). Commits {T = Unit {0}} c.args.store.now c.commit.new.self c.args.change c.args.puts.now h Disk (Ok tt))
           same c.in-Ok-commit.ensures.calls;
     }
+
+pub returns-in-Err-clause-unread : goal.returns-in-Err-clause-unread
+returns-in-Err-clause-unread g c = λ yes which. refl

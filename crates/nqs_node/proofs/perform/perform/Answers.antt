@@ -1,4 +1,4 @@
-use Rattle.std.proofs.Common.{◌≡◌, ◌⊎◌, refl, inl, inr, IsTrue, Err, Option, option_map, sym, ap, subst, ◌∙◌}
+use Rattle.std.proofs.Common.{◌≡◌, ◌⊎◌, refl, inl, inr, IsTrue, Err, length, Option, option_map, sym, ap, subst, ◌∙◌}
 use Rattle.std.proofs.Math.Nat.{le_trans}
 use Rattle.std.proofs.lemmas.Result.{on_ok_weaker, on_err_weaker}
 use Rattle.nqs_state.specs.State.{content}
@@ -17,6 +17,8 @@ use Rattle.nqs_outside.proofs.Roses.{rose_since}
 use Rattle.nqs_base.proofs.Plain.{anyway}
 use Rattle.nqs_node.proofs.Places.{no_error, not_both}
 use Rattle.nqs_node.proofs.Performing.{plain_since}
+use Rattle.nqs_store.specs.Reads.{of_spool}
+use Rattle.nqs_node.proofs.Asking.{asks_no_more}
 use Rattle.nqs_node.proofs.perform.perform.Goals as goal
 
 either : {A B C X : Type 0} → (B → X) → A ⊎ B → A ⊎ (C ⊎ X)
@@ -161,3 +163,7 @@ returns-in-Some-clause-performs g c =
                 (same_plain old mid (spool.reads.same yes) host) (makes.calls.any_moment yes (spool.tells yes host told));
           };
     }
+
+pub returns-in-Some-clause-asks : goal.returns-in-Some-clause-asks
+returns-in-Some-clause-asks g c =
+    asks_no_more c.args.store.now c.read_all.new.store c.keep.new.store (of_spool (length c.args.reads.now)) c.in-Ok.ensures.asks c.keep.ensures.unread

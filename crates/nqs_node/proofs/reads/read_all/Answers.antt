@@ -13,6 +13,9 @@ use Rattle.nqs_store.specs.Stores.{bytes_of}
 use Rattle.nqs_node.specs.Reading.{read_into, IsLiveRead, IsShortRead, sends_short, AreShort}
 use Rattle.nqs_node.proofs.Carrying.{read_short}
 use Rattle.nqs_node.proofs.Places.{no_error, all_at, reads_none, reads_then, failed_since}
+use Rattle.nqs_store.specs.Reads.{of_spool}
+use Rattle.nqs_store.proofs.Asking.{asks_same}
+use Rattle.nqs_node.proofs.Asking.{asks_then, asks_more}
 use Rattle.nqs_node.proofs.reads.read_all.Goals as goal
 
 pub returns-in_err-read_one-clause-spool : goal.returns-in_err-read_one-clause-spool
@@ -80,6 +83,8 @@ loop-read-preserved g c =
       reads = reads_then _ _ _ v.reads c.read_one.ensures.spool.reads;
       stays = (c.read_one.ensures.spool.stays.0 ∙ v.stays.0, c.read_one.ensures.spool.stays.1 ∙ v.stays.1);
       tells = λ yes host told. c.read_one.ensures.spool.tells yes host (v.tells yes host told);
+      asks = asks_then c.args.store.now c.loop-read.store c.read_one.new.store i v.asks c.read_one.ensures.once;
+      few = omega (arith, c.loop-read-test.true);
     }
 
 pub returns-clause-fills : goal.returns-clause-fills
@@ -106,4 +111,18 @@ loop-read-init g c = record {
   reads = reads_none _;
   stays = (refl, refl);
   tells = λ yes host told. told;
+  asks = asks_same c.args.store.now (of_spool 0);
+  few = omega arith;
 }
+
+pub returns-in_err-read_one-clause-asks : goal.returns-in_err-read_one-clause-asks
+returns-in_err-read_one-clause-asks g c =
+    let v = c.loop-read.invariant in
+    let i = c.loop-read.read-index in
+    asks_more c.args.store.now c.read_one.new.store (i + 1) (length c.args.reads.now) (omega (arith, c.loop-read-test.true))
+    (asks_then c.args.store.now c.loop-read.store c.read_one.new.store i v.asks c.read_one.ensures.once)
+
+pub returns-clause-asks : goal.returns-clause-asks
+returns-clause-asks g c =
+    let v = c.loop-read.invariant in
+    asks_more c.args.store.now c.loop-read.store c.loop-read.read-index (length c.args.reads.now) v.few v.asks

@@ -1,6 +1,7 @@
-use Rattle.std.proofs.Common.{◌≡◌, IsTrue, [], length, map, drop}
+use Rattle.std.proofs.Common.{◌≡◌, ◌≤◌, IsTrue, [], length, map, drop}
 use Rattle.std.specs.List.{AllByRecursion}
-use Rattle.nqs_store.specs.Stores.{is_stopped, active_of, bytes_of, Tells, OnlyReads}
+use Rattle.nqs_store.specs.Reads.{of_spool}
+use Rattle.nqs_store.specs.Stores.{is_stopped, active_of, bytes_of, Tells, OnlyReads, AsksAtMost}
 use Rattle.nqs_store.specs.Told.{Host}
 use Rattle.nqs_back.specs.Bare.{without_bytes}
 use Rattle.nqs_node.specs.Reading.{read_into, AreLiveReads, IsShortRead, AreShort}
@@ -18,4 +19,6 @@ invariant-loop-read g l = record {
   reads : OnlyReads l.fn.store l.store;
   stays : (is_stopped l.store ≡ is_stopped l.fn.store) × (active_of l.store ≡ active_of l.fn.store);
   tells : IsTrue g.D.Disk.tells → (host : Host) → Tells l.fn.store host → Tells l.store host;
+  asks : AsksAtMost l.fn.store l.store (of_spool l.read-index);
+  few : l.read-index ≤ length l.reads;
 }

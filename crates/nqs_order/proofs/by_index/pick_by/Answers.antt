@@ -3,5 +3,5 @@ use Rattle.nqs_state.specs.State.{content}
 use Rattle.nqs_order.proofs.PickedByIndex.{picks_same}
 use Rattle.nqs_order.proofs.by_index.pick_by.Goals as goal
 
-pub returns : goal.returns
-returns c = c.picked.ensures ∙ picks_same c.args.index.now (content c.args.state.now) c.requires.stands c.requires.order c.args.now
+pub returns-clause-choice : goal.returns-clause-choice
+returns-clause-choice g c = c.picked.ensures.choice ∙ picks_same c.args.index.now (content c.args.state.now) c.requires.stands c.requires.order c.args.now

@@ -26,6 +26,7 @@ returns-in_default g t c = record {
     due = λ told. none_clear (g.D.Disk.fails (disk_of c.args.spool.now)) (moment (history_of c.args.spool.now)) c.args.puts.now c.in_default.ensures.cases;
     failing = λ told. tt;
     fuse = λ told i. refl;
+    unread = λ told. refl;
     kept = λ told live tells x script has holds. held_idle (history_of c.args.spool.now) x script (tells.quiet told) holds;
     still = λ told live tells x script has holds. holds;
   };
@@ -57,6 +58,7 @@ returns-in-Err g t c =
             (e.exact told short (λ is. absurd (omega (arith, c.requires.room, size, e.memory is)))) in
             rw is (first_fails (g.D.Disk.fails (disk_of old)) (moment (history_of old)) put later (g.D.Disk.starved (disk_of c.put.new.self)) one);
         fuse = e.fuse;
+        unread = e.unread;
         kept = e.kept;
         still = e.still;
       };
@@ -117,6 +119,7 @@ returns-in-Ok g t c =
             (g.D.Disk.fails (disk_of mid)) x.place put later (made told) (e.fuse told) (clear told) (g.D.Disk.starved (disk_of c.put_all.new.spool)) rest))
             (l.failing told);
         fuse = λ told i. l.fuse told i ∙ e.fuse told i;
+        unread = λ told. l.unread told ∙ e.unread told;
         kept = λ told live tells y script has holds.
             kept_on old mid c.put_all.new.spool x _ e.tells e.stored live y script _ tells has (c.put_all.ensures.grown told).1
             (e.kept told live tells y script has holds) (e.still told live tells y script has holds)

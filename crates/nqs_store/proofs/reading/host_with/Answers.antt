@@ -11,4 +11,5 @@ returns-clause-read g c =
       fault = λ told. tt;
       failed = search rules;
       reads = size.reads;
+      once = size.once;
     }

@@ -1,4 +1,4 @@
-use Rattle.std.proofs.Common.{rules, ◌≡◌, ◌∙◌, ◌++◌, ◌≤◌, Some, length, sym, ap, subst, arith, length-append}
+use Rattle.std.proofs.Common.{rules, ◌≡◌, ◌∙◌, ◌++◌, ◌≤◌, ◌+◌, Some, length, sym, ap, subst, arith, length-append}
 use Rattle.std.specs.List.{AllByRecursion}
 use Rattle.nqs_state.specs.State.{content}
 use Rattle.nqs_outside.specs.History.{IsQuiet, content as bytes_now}
@@ -28,6 +28,8 @@ returns-in-Err-open_rest g c =
       active = subst (OnlyReads g.D.Disk c.args.active) (sym back) e.reads;
       resting = search rules;
       spool = search rules;
+      twice = λ told. subst (λ d. g.D.Disk.reads d ≤ g.D.Disk.reads c.args.active + 2) (sym back) (e.twice told);
+      once = λ told. subst (λ d. g.D.Disk.reads d ≤ g.D.Disk.reads c.args.spool + 1) (sym c.in-Err-open_rest.ensures.same.1) (c.host_in.ensures.once told);
     }
 
 pub returns : goal.returns
@@ -59,4 +61,6 @@ returns g c = record {
   active = c.in-Ok.ensures.reads;
   resting = search rules;
   spool = search rules;
+  twice = c.in-Ok.ensures.twice;
+  once = λ told. subst (λ d. g.D.Disk.reads d ≤ g.D.Disk.reads c.args.spool + 1) (sym c.in-Ok-open_rest.ensures.same.1) (c.host_in.ensures.once told);
 }

@@ -28,4 +28,6 @@ returns g c = record {
   failed = search rules;
   active = search rules;
   spool = search rules;
+  twice = search rules;
+  once = search rules;
 }

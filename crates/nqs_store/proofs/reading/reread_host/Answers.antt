@@ -29,6 +29,8 @@ returns g c = record {
     failed = search rules;
     active = search rules;
     spool = search rules;
+    twice = search rules;
+    once = search rules;
   };
   stays = search rules;
   tells = search rules;

@@ -2,6 +2,7 @@ use Rattle.std.proofs.Common.{◌≡◌, inl, inr, true, false, refl, sym, ◌�
 use Rattle.nqs_types.specs.declared.world.Which.TheVariants.{Root}
 use Rattle.nqs_store.specs.Disks.{histories_of, contents}
 use Rattle.nqs_store.proofs.EachDisk.{each_disk}
+use Rattle.nqs_store.proofs.Asking.{asks_root, asks_each, asks_named}
 use Rattle.nqs_store.proofs.Opening.{one_same, each_reads}
 use Rattle.nqs_store.proofs.ReadEnds.{told_end, fault_end, host_end, never_end}
 use Rattle.nqs_store.proofs.store.read_only.Goals as goal
@@ -93,3 +94,16 @@ pub returns-else-second-clause-reads : goal.returns-else-second-clause-reads
 returns-else-second-clause-reads g c =
     each_reads _ _ _
     (each_disk _ c.in-Ok.ensures.reads c.read_host-else-second.ensures.active (one_same _ _ _ refl) c.read_host-else-second.ensures.spool)
+
+pub returns-in_default-clause-asks : goal.returns-in_default-clause-asks
+returns-in_default-clause-asks g c = asks_root g.D.Disk _ _ _ c.in_default.ensures.once refl refl refl
+
+pub returns-then-second-clause-asks : goal.returns-then-second-clause-asks
+returns-then-second-clause-asks g c =
+    asks_named g.D.Disk _ _ true _ (λ told. sym c.if-second.true ∙ c.in-Ok.ensures.names told)
+    (asks_each g.D.Disk _ _ true c.in-Ok.ensures.once c.read_host.ensures.twice refl c.read_host.ensures.once)
+
+pub returns-else-second-clause-asks : goal.returns-else-second-clause-asks
+returns-else-second-clause-asks g c =
+    asks_named g.D.Disk _ _ false _ (λ told. sym c.if-second.false ∙ c.in-Ok.ensures.names told)
+    (asks_each g.D.Disk _ _ false c.in-Ok.ensures.once c.read_host-else-second.ensures.twice refl c.read_host-else-second.ensures.once)

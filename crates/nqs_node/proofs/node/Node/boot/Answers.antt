@@ -6,6 +6,7 @@ use Rattle.nqs_store.specs.Disks.{histories_of}
 use Rattle.nqs_node.specs.Carried.{IsOneOrOther}
 use Rattle.nqs_node.proofs.Performing.{still_broken_off}
 use Rattle.nqs_node.proofs.Booting.{quiet_one}
+use Rattle.nqs_node.proofs.Asking.{asks_booted}
 use Rattle.nqs_node.proofs.node.Node.boot.Goals as goal
 
 pub returns-in-Err-clause-unbooted : goal.returns-in-Err-clause-unbooted
@@ -37,3 +38,9 @@ returns-in-Ok-clause-booted g c = c.boot_loaded.ensures.booted c.args.disks c.in
 
 pub returns-in-Ok-clause-unbooted : goal.returns-in-Ok-clause-unbooted
 returns-in-Ok-clause-unbooted g c = c.boot_loaded.ensures.unbooted c.args.disks c.in-Ok.ensures
+
+pub returns-in-Err-clause-asks : goal.returns-in-Err-clause-asks
+returns-in-Err-clause-asks g c = c.in-Err.ensures.asks
+
+pub returns-in-Ok-clause-asks : goal.returns-in-Ok-clause-asks
+returns-in-Ok-clause-asks g c = asks_booted c.args.disks c.in-Ok.store _ c.boot_loaded.result c.in-Ok.ensures.asks c.boot_loaded.ensures.unread

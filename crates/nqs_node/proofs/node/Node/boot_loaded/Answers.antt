@@ -115,3 +115,9 @@ returns-in-Ok-clause-outputs g c = λ yes disks loaded s is.
     c.in-Ok.ensures.outputs (bytes_of c.args.store) ∙ ap (λ (p : Plain). c.args.out.now.items ++ filter_map boot_output p.rows)
     (loaded_is c.args.store (content c.args.state) is.host (bytes_now (g.D.Disk.history (disk_at Spool disks))) s
     (ap bytes_now (loaded.reads.same yes Spool)) (loaded.told yes is.host is.is) is.bytes)
+
+pub returns-in-Err-clause-unread : goal.returns-in-Err-clause-unread
+returns-in-Err-clause-unread g c = λ yes which. ap g.D.Disk.reads (c.close.ensures which) ∙ c.begin.ensures.unread yes which
+
+pub returns-in-Ok-clause-unread : goal.returns-in-Ok-clause-unread
+returns-in-Ok-clause-unread g c = c.begin.ensures.unread

@@ -1,4 +1,4 @@
-use Rattle.std.proofs.Common.{◌≡◌, ◌⊎◌, ◌++◌, ℕ, IsTrue, Err, List, [], Option, option_map, map, refl, sym, ap, subst, ◌∙◌}
+use Rattle.std.proofs.Common.{◌≡◌, ◌⊎◌, ◌++◌, ℕ, IsTrue, Err, length, List, [], Option, option_map, map, refl, sym, ap, subst, ◌∙◌}
 use Rattle.std.specs.List.{list_all}
 use Rattle.std.proofs.lemmas.List.{map-append}
 use Rattle.nqs_state.specs.State.{Plain}
@@ -15,6 +15,8 @@ use Rattle.nqs_node.proofs.Carrying.{reads_short, short_together}
 use Rattle.nqs_node.proofs.Places.{no_error, node_memory, node_disk}
 use Rattle.nqs_node.proofs.Still.{memory_no_refusal, disk_no_refusal, disk_no_memory, no_refusal, stays_still, stops_still, carries_still}
 use Rattle.nqs_node.proofs.Telling.{kept_from, tells_still}
+use Rattle.nqs_store.specs.Reads.{of_spool}
+use Rattle.nqs_store.proofs.Asking.{asks_same}
 use Rattle.nqs_node.proofs.node.Node.carry_out.Goals as goal
 
 pub unreachable-requires : goal.unreachable-requires
@@ -198,3 +200,20 @@ returns-clause-carries g c =
                 (calls.any_moment yes told.told);
           };
     }
+
+-- how often the spool is asked
+
+pub returns-in-Err-clause-asks : goal.returns-in-Err-clause-asks
+returns-in-Err-clause-asks g c = asks_same c.args.self.now.store (of_spool (length c.args.plan.reads))
+
+pub returns-in-Err-Memory-clause-asks : goal.returns-in-Err-Memory-clause-asks
+returns-in-Err-Memory-clause-asks g c = subst (λ l. store.AsksAtMost c.args.self.now.store c.perform.new.store (of_spool (length l)))
+    (c.as_slice-in-Ok.ensures ∙ ap (λ parts. parts.3) c.into_parts-change.ensures) c.perform.ensures.asks
+
+pub returns-in-Err-Disk-clause-asks : goal.returns-in-Err-Disk-clause-asks
+returns-in-Err-Disk-clause-asks g c = subst (λ l. store.AsksAtMost c.args.self.now.store c.perform.new.store (of_spool (length l)))
+    (c.as_slice-in-Ok.ensures ∙ ap (λ parts. parts.3) c.into_parts-change.ensures) c.perform.ensures.asks
+
+pub returns-clause-asks : goal.returns-clause-asks
+returns-clause-asks g c = subst (λ l. store.AsksAtMost c.args.self.now.store c.perform.new.store (of_spool (length l)))
+    (c.as_slice-in-Ok.ensures ∙ ap (λ parts. parts.3) c.into_parts-change.ensures) c.perform.ensures.asks

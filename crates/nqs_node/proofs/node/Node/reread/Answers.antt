@@ -11,3 +11,6 @@ returns-clause-never g c = λ yes s told. c.reread.ensures.never yes (content_of
 
 pub returns-clause-tells : goal.returns-clause-tells
 returns-clause-tells g c = λ yes s told. tells_still c.args.self.now s told _ refl (c.reread.ensures.reads.same yes) (c.reread.ensures.tells yes) told.running
+
+pub returns-clause-asks : goal.returns-clause-asks
+returns-clause-asks g c = c.reread.ensures.asks

@@ -1,4 +1,4 @@
-use Rattle.std.proofs.Common.{◌++◌, IsTrue, IfSome, List, [], ℕ, is_some, map, refl, sym, ap, subst, ◌∙◌, le_refl}
+use Rattle.std.proofs.Common.{◌++◌, IsTrue, length, IfSome, List, [], ℕ, is_some, map, refl, sym, ap, subst, ◌∙◌, le_refl}
 use Rattle.std.specs.List.{AllByRecursion}
 use Rattle.std.proofs.lemmas.List.{append-nil}
 use Rattle.nqs_rules.specs.Fits.{fits}
@@ -9,8 +9,8 @@ use Rattle.nqs_store.specs.Puts.{IsShortPut}
 use Rattle.nqs_host_laws.specs.Offers.{takes_back_few}
 use Rattle.nqs_host_laws.specs.Reads.{AreLive}
 use Rattle.nqs_node.specs.Carried.{started, after_kept, IsMade}
-use Rattle.nqs_node.specs.Nodes.{history_of, fails_of, active_of, content_of, bytes_of, Tells}
-use Rattle.nqs_node.specs.Reading.{AreShort}
+use Rattle.nqs_node.specs.Nodes.{history_of, fails_of, active_of, content_of, bytes_of, Tells, AsksAtMost}
+use Rattle.nqs_node.specs.Reading.{AreShort, reads_for}
 use Rattle.nqs_back.proofs.Plans.{bare_step, alike_step, fewer_left, one_back}
 use Rattle.nqs_node.proofs.Bare.{picked_bare, started_bare, bare_none, alike_none}
 use Rattle.nqs_store.specs.declared.fault.StoreFault.TheVariants as fault
@@ -19,6 +19,10 @@ use Rattle.nqs_node.proofs.Still.{no_refusal, takes_still, refuses_still, wants_
 use Rattle.nqs_node.proofs.Planning.{next_is, at_next, none_next, may_be_done, does}
 use Rattle.nqs_node.proofs.Resting.{none_found}
 use Rattle.nqs_node.proofs.Telling.{tells_still, one_still, does_next, quiet_next}
+use Rattle.nqs_types.specs.declared.event.Plan.{Plan}
+use Rattle.nqs_store.specs.Reads.{of_spool}
+use Rattle.nqs_store.proofs.Asking.{asks_same}
+use Rattle.nqs_node.proofs.Asking.{plan_reads}
 use Rattle.nqs_node.proofs.node.Node.start_next.Goals as goal
 
 pub carry_out-requires-clause-may : goal.carry_out-requires-clause-may
@@ -165,3 +169,32 @@ returns-in-Ok-clause-one_back g c =
 pub returns-in-Err-carry_out-clause-due : goal.returns-in-Err-carry_out-clause-due
 returns-in-Err-carry_out-clause-due g c = λ which is.
     ap is_some (next_is c.args.now (content_of c.args.self.now) c.in-Ok-Some.plan (sym c.in-Ok-Some.field-0-is ∙ c.in-Ok-Some.ensures)).picked
+
+pub returns-then-self-clause-asks : goal.returns-then-self-clause-asks
+returns-then-self-clause-asks g c = asks_same c.args.self.now.store _
+
+pub returns-in-Err-clause-asks : goal.returns-in-Err-clause-asks
+returns-in-Err-clause-asks g c = asks_same c.args.self.now.store _
+
+pub returns-in-Ok-None-clause-asks : goal.returns-in-Ok-None-clause-asks
+returns-in-Ok-None-clause-asks g c = asks_same c.args.self.now.store _
+
+pub returns-in-Err-carry_out-clause-asks : goal.returns-in-Err-carry_out-clause-asks
+returns-in-Err-carry_out-clause-asks g c =
+    let now = c.args.now in
+    let host = content_of c.args.self.now in
+    let next = next_is now host c.in-Ok-Some.plan (sym c.in-Ok-Some.field-0-is ∙ c.in-Ok-Some.ensures) in
+    let same = started_bare now host (c.start_looks_at_no_bytes.ensures.start (λ _. []) now host) next.done next.picked in
+    subst (λ (n : ℕ). AsksAtMost c.args.self.now c.carry_out.new.self (of_spool n))
+    (ap (λ (p : Plan). length p.reads) next.is ∙ plan_reads (λ _. []) next.done ∙ ap (λ (x : Stepped (List ℕ)). reads_for x.outputs) (sym same))
+    c.carry_out.ensures.asks
+
+pub returns-in-Ok-clause-asks : goal.returns-in-Ok-clause-asks
+returns-in-Ok-clause-asks g c =
+    let now = c.args.now in
+    let host = content_of c.args.self.now in
+    let next = next_is now host c.in-Ok-Some.plan (sym c.in-Ok-Some.field-0-is ∙ c.in-Ok-Some.ensures) in
+    let same = started_bare now host (c.start_looks_at_no_bytes.ensures.start (λ _. []) now host) next.done next.picked in
+    subst (λ (n : ℕ). AsksAtMost c.args.self.now c.carry_out.new.self (of_spool n))
+    (ap (λ (p : Plan). length p.reads) next.is ∙ plan_reads (λ _. []) next.done ∙ ap (λ (x : Stepped (List ℕ)). reads_for x.outputs) (sym same))
+    c.carry_out.ensures.asks

@@ -1,16 +1,19 @@
-use Rattle.std.proofs.Common.{◌≡◌, ℕ, List, [], map, sym, ap, subst, ◌∙◌}
+use Rattle.std.proofs.Common.{◌≡◌, ℕ, List, [], map, length, sym, ap, subst, ◌∙◌}
 use Rattle.std.proofs.lemmas.Result.{on_ok_weaker, IfOk-weaker}
 use Rattle.nqs_rules.specs.Step.{step}
 use Rattle.nqs_rules.specs.Stepped.{Stepped, map_stepped, shown}
 use Rattle.nqs_types.specs.declared.event.Plan.{Plan}
-use Rattle.nqs_node.specs.Nodes.{content_of, bytes_of, bare}
-use Rattle.nqs_node.specs.Reading.{AreShort}
+use Rattle.nqs_node.specs.Nodes.{content_of, bytes_of, bare, AsksAtMost}
+use Rattle.nqs_node.specs.Reading.{AreShort, reads_for}
 use Rattle.nqs_back.proofs.Plans.{bare_step, alike_step, no_more_left, none_back}
 use Rattle.nqs_store.specs.declared.fault.StoreFault.TheVariants as fault
 use Rattle.nqs_node.proofs.Places.{node_memory, node_stopped}
 use Rattle.nqs_node.proofs.Still.{takes_still, refuses_still, wants_still}
 use Rattle.nqs_node.proofs.Planning.{may_be_done, does}
 use Rattle.nqs_node.proofs.Telling.{done_here}
+use Rattle.nqs_store.specs.Reads.{of_spool}
+use Rattle.nqs_store.proofs.Asking.{asks_same}
+use Rattle.nqs_node.proofs.Asking.{plan_reads}
 use Rattle.nqs_node.proofs.node.Node.take.Goals as goal
 
 pub carry_out-requires-clause-may : goal.carry_out-requires-clause-may
@@ -78,3 +81,17 @@ returns-in-Ok-clause-none_back g c = λ back.
     (alike_step (content_of c.args.self.now) (step c.args.event.now) (step c.args.event.now (content_of c.args.self.now)) c.in-Ok.plan c.in-Ok.ensures
     (c.step_looks_at_no_bytes.ensures (λ _. []) c.args.event.now (content_of c.args.self.now)) c.args.out.now.items c.carry_out.new.out.items said))
     c.carry_out.ensures.carries.alike
+
+pub returns-then-self-clause-asks : goal.returns-then-self-clause-asks
+returns-then-self-clause-asks g c = asks_same c.args.self.now.store _
+
+pub returns-in-Err-clause-asks : goal.returns-in-Err-clause-asks
+returns-in-Err-clause-asks g c = asks_same c.args.self.now.store _
+
+pub returns-in-Ok-clause-asks : goal.returns-in-Ok-clause-asks
+returns-in-Ok-clause-asks g c =
+    let e = c.args.event.now in
+    let host = content_of c.args.self.now in
+    subst (λ (n : ℕ). AsksAtMost c.args.self.now c.carry_out.new.self (of_spool n))
+    (ap (λ (p : Plan). length p.reads) c.in-Ok.ensures ∙ plan_reads (λ _. []) (step e host)
+    ∙ ap (λ (x : Stepped (List ℕ)). reads_for x.outputs) (sym (c.step_looks_at_no_bytes.ensures (λ _. []) e host))) c.carry_out.ensures.asks

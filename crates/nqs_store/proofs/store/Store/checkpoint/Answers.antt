@@ -21,3 +21,9 @@ returns-clause-turns g c =
     let is = subst (λ t. IsTextOf t (state_field host)) (sym c.deref.ensures.value) c.in_ok-text.ensures.text in
     checkpoint_by c.args.self.now c.turn_over.new.self Disk c.turn_over.result (state_field host) host c.deref.result.now is c.in_ok-text.ensures.reads
     c.turn_over.ensures.turns
+
+pub returns-then-self-clause-unread : goal.returns-then-self-clause-unread
+returns-then-self-clause-unread g c = λ yes which. Rattle.std.proofs.Common.refl
+
+pub returns-in_err-text-clause-unread : goal.returns-in_err-text-clause-unread
+returns-in_err-text-clause-unread g c = λ yes which. Rattle.std.proofs.Common.refl

@@ -6,6 +6,8 @@ use Rattle.nqs_store.specs.Stores.{history_of}
 use Rattle.nqs_store.specs.declared.fault.StoreFault.TheVariants.{Disk, Stopped}
 use Rattle.nqs_store.proofs.Kept.{idle_commits, only_memory}
 use Rattle.nqs_store.proofs.Rooms.{same_histories}
+use Rattle.nqs_store.proofs.EachDisk.{each_disk}
+use Rattle.nqs_store.proofs.Asking.{none_same, none_after}
 use Rattle.nqs_store.proofs.Prepared.{tells_same, is_left, stops_from, keeps_from, commits_from}
 use Rattle.nqs_store.proofs.store.Store.commit.Goals as goal
 
@@ -43,3 +45,12 @@ returns-clause-calls g c =
     let host = content c.args.state.now in
     commits_from o _ refl refl refl refl c.prepared.ensures.same Disk c.keep.result c.keep.new.self c.args.change.now c.args.puts.now host
     (tells_same o _ refl refl refl refl c.prepared.ensures.same host c.prepared.ensures.tells) c.keep.ensures.calls
+
+pub returns-in_err-text-clause-unread : goal.returns-in_err-text-clause-unread
+returns-in_err-text-clause-unread g c = none_same c.args.self.now _ (each_disk _ refl refl refl c.prepared.ensures.same)
+
+pub returns-clause-unread : goal.returns-clause-unread
+returns-clause-unread g c = none_after c.args.self.now _ c.keep.new.self c.keep.ensures.unread (each_disk _ refl refl refl c.prepared.ensures.same)
+
+pub returns-then-self-clause-unread : goal.returns-then-self-clause-unread
+returns-then-self-clause-unread g c = λ yes which. refl

@@ -4,6 +4,7 @@ use Rattle.nqs_snapshot.specs.Spelling.{state_field}
 use Rattle.nqs_store.specs.Steps.{IsTextOf}
 use Rattle.nqs_store.specs.declared.fault.StoreFault.TheVariants.{Disk}
 use Rattle.nqs_store.proofs.Kept.{idle_commits, turn_commits, here_commits, here_keeps, there_commits, there_keeps, stops_since}
+use Rattle.nqs_store.proofs.Asking.{none_then}
 use Rattle.nqs_store.proofs.store.Store.keep.Goals as goal
 use Rattle.nqs_store.proofs.store.Store.keep.Goals.{After-turn_over}
 use Rattle.nqs_store.proofs.store.Store.keep.Given.{Over}
@@ -54,3 +55,11 @@ returns-clause-calls g c =
     there_commits c.args.self.now now.new.self c.args.change.now c.args.puts.now host Disk now.result c.turn_over.new.self c.deref.result.now (state_field host)
     (sym c.due.ensures ∙ c.if-not-due.false) (text_of g k) c.in-Ok.ensures.reads c.in-Ok-turn_over.ensures.turns c.turn_over.ensures.stops.fuse
     now.ensures.calls
+
+pub returns-clause-unread : goal.returns-clause-unread
+returns-clause-unread g c =
+    none_then c.args.self.now c.turn_over.new.self c.keep_change-in-Ok-turn_over.new.self c.turn_over.ensures.unread
+    c.keep_change-in-Ok-turn_over.ensures.unread
+
+pub returns-in-Err-clause-unread : goal.returns-in-Err-clause-unread
+returns-in-Err-clause-unread g c = λ yes which. Rattle.std.proofs.Common.refl

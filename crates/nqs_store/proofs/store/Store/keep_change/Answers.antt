@@ -5,6 +5,7 @@ use Rattle.nqs_state.specs.State.{content}
 use Rattle.nqs_types.specs.declared.world.Which.TheVariants.{Spool}
 use Rattle.nqs_outside.specs.History.{content as content_of}
 use Rattle.nqs_journal.specs.Either.{front_of}
+use Rattle.nqs_journal.specs.Open as journal
 use Rattle.nqs_spool.specs.Spooled as spool
 use Rattle.nqs_rules.specs.Applied.{applied}
 use Rattle.nqs_rules.specs.Filled.{filled}
@@ -22,6 +23,7 @@ use Rattle.nqs_store.proofs.EachDisk.{journal_kept}
 use Rattle.nqs_store.specs.declared.fault.StoreFault.TheVariants.{Disk}
 use Rattle.nqs_store.proofs.Kept.{stops_at, rose_at}
 use Rattle.nqs_store.proofs.Rooms.{grown}
+use Rattle.nqs_store.proofs.Asking.{none_by}
 use Rattle.nqs_store.proofs.store.Store.keep_change.Goals as goal
 use Rattle.nqs_store.proofs.store.Store.keep_change.Goals.{After-append_to}
 use Rattle.nqs_store.proofs.store.Store.keep_change.Given.{Over}
@@ -161,3 +163,18 @@ returns-in-Ok-append_to-clause-calls g c =
       broken_off = λ told. tt;
       cut = λ told tells which is. absurd (let no : ⊥ = cc in no);
     }
+
+pub returns-in-Err-clause-unread : goal.returns-in-Err-clause-unread
+returns-in-Err-clause-unread g c =
+    none_by c.args.self.now _ c.args.self.now.on_second (λ yes. refl) (λ yes. refl) (λ yes. refl) c.put_bytes.ensures.puts.unread
+
+pub returns-in-Err-append_to-clause-unread : goal.returns-in-Err-append_to-clause-unread
+returns-in-Err-append_to-clause-unread g c =
+    none_by c.args.self.now _ c.args.self.now.on_second (λ yes. refl) c.append_to.ensures.appends.unread
+    (λ yes. ap (λ j. g.D.Disk.reads (journal.disk_of j)) c.append_to.ensures.rest) c.put_bytes.ensures.puts.unread
+
+pub returns-in-Ok-append_to-clause-unread : goal.returns-in-Ok-append_to-clause-unread
+returns-in-Ok-append_to-clause-unread g c =
+    none_by c.args.self.now _ c.args.self.now.on_second (λ yes. refl) c.append_to.ensures.appends.unread
+    (λ yes. ap (λ j. g.D.Disk.reads (journal.disk_of j)) c.append_to.ensures.rest)
+    (λ yes. ap g.D.Disk.reads c.free_gone.ensures.same ∙ c.put_bytes.ensures.puts.unread yes)

@@ -2,6 +2,7 @@ use Rattle.std.proofs.Common.{◌≡◌, ◌∙◌, inl, true, false, refl, sym}
 use Rattle.nqs_types.specs.declared.world.Which.TheVariants.{Root, First, Second, Spool}
 use Rattle.nqs_store.proofs.EachDisk.{each_disk}
 use Rattle.nqs_store.proofs.Opening.{one_same, each_reads}
+use Rattle.nqs_store.proofs.Asking.{asks_root}
 use Rattle.nqs_store.proofs.LoadEnds.{loads_end}
 use Rattle.nqs_store.proofs.store.Store.load.Goals as goal
 
@@ -28,14 +29,15 @@ returns-in_default g c = record {
   reads =
       each_reads _ _ _
       (each_disk _ c.in_default.ensures.reads (one_same _ _ _ refl) (one_same _ _ _ refl) (one_same _ _ _ refl));
+  asks = asks_root g.D.Disk _ _ _ c.in_default.ensures.once refl refl refl;
 }
 
 pub returns-then-on_second : goal.returns-then-on_second
 returns-then-on_second g c =
     loads_end g.D.Disk c.args.disks _ c.in-Ok.ensures.reads true c.open_second.result (λ told. sym c.if-on_second.true ∙ c.in-Ok.ensures.names told)
-    c.requires c.open_second.ensures
+    c.in-Ok.ensures.once c.requires c.open_second.ensures
 
 pub returns-else-on_second : goal.returns-else-on_second
 returns-else-on_second g c =
     loads_end g.D.Disk c.args.disks _ c.in-Ok.ensures.reads false c.open_first.result (λ told. sym c.if-on_second.false ∙ c.in-Ok.ensures.names told)
-    c.requires c.open_first.ensures
+    c.in-Ok.ensures.once c.requires c.open_first.ensures

@@ -20,6 +20,8 @@ returns-in-Err g c = record {
   active = c.in-Err.ensures.active;
   resting = c.in-Err.ensures.resting;
   spool = c.in-Err.ensures.spool;
+  twice = c.in-Err.ensures.twice;
+  once = c.in-Err.ensures.once;
 }
 
 pub returns-in-Ok : goal.returns-in-Ok
@@ -35,4 +37,6 @@ returns-in-Ok g c = record {
   active = c.in-Ok.ensures.active;
   resting = c.in-Ok.ensures.resting;
   spool = c.in-Ok.ensures.spool;
+  twice = c.in-Ok.ensures.twice;
+  once = c.in-Ok.ensures.once;
 }

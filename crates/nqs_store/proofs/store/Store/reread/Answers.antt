@@ -3,6 +3,7 @@ use Rattle.nqs_types.specs.declared.world.Which.TheVariants.{Root}
 use Rattle.nqs_store.specs.Disks.{contents}
 use Rattle.nqs_store.specs.Stores.{history_of}
 use Rattle.nqs_store.proofs.EachDisk.{each_disk}
+use Rattle.nqs_store.proofs.Asking.{asks_root, asks_each, asks_named}
 use Rattle.nqs_store.proofs.Opening.{one_same, each_reads, tells_read}
 use Rattle.nqs_store.proofs.ReadEnds.{told_end, fault_end, host_end, never_end}
 use Rattle.nqs_store.proofs.Rereading.{either_one, first_runs, second_runs, active_again, tells_again}
@@ -39,6 +40,7 @@ returns-in_default g c = record {
   reads =
       each_reads _ _ _
       (each_disk _ c.in_default.ensures.reads (one_same _ _ _ refl) (one_same _ _ _ refl) (one_same _ _ _ refl));
+  asks = asks_root g.D.Disk _ _ _ c.in_default.ensures.once refl refl refl;
   stays = (refl, refl);
   tells =
       λ told.
@@ -75,6 +77,9 @@ returns-then-second g c = record {
   reads =
       each_reads _ _ _
       (each_disk _ c.in-Ok.ensures.reads (one_same _ _ _ refl) c.reread_host.ensures.host.active c.reread_host.ensures.host.spool);
+  asks =
+      asks_named g.D.Disk _ _ true _ (λ told. sym c.if-second.true ∙ c.in-Ok.ensures.names told)
+      (asks_each g.D.Disk _ _ true c.in-Ok.ensures.once c.reread_host.ensures.host.twice refl c.reread_host.ensures.host.once);
   stays = (
     refl,
     active_again c.args.self.now c.args.self.now.first c.reread_host.new.journal (either_one _ refl c.reread_host.ensures.stays.1),
@@ -115,6 +120,9 @@ returns-else-second g c = record {
       each_reads _ _ _
       (each_disk _ c.in-Ok.ensures.reads c.reread_host-else-second.ensures.host.active (one_same _ _ _ refl)
       c.reread_host-else-second.ensures.host.spool);
+  asks =
+      asks_named g.D.Disk _ _ false _ (λ told. sym c.if-second.false ∙ c.in-Ok.ensures.names told)
+      (asks_each g.D.Disk _ _ false c.in-Ok.ensures.once c.reread_host-else-second.ensures.host.twice refl c.reread_host-else-second.ensures.host.once);
   stays = (
     refl,
     active_again c.args.self.now c.reread_host-else-second.new.journal c.args.self.now.second (either_one _ c.reread_host-else-second.ensures.stays.1 refl),

@@ -1,5 +1,7 @@
-use Rattle.std.proofs.Common.{rules, ◌∙◌, refl, sym}
+use Rattle.std.proofs.Common.{rules, ◌∙◌, refl, sym, ap}
 use Rattle.nqs_types.specs.declared.world.Which.TheVariants.{Root}
+use Rattle.nqs_journal.specs.Open as journal
+use Rattle.nqs_store.proofs.Asking.{none_by}
 use Rattle.nqs_store.proofs.Changed.{same_which}
 use Rattle.nqs_store.proofs.Turned.{other_failed, other_cut, root_failed, root_cut, all_turned, turned_tells, turned_clear, other_at, root_at}
 use Rattle.nqs_store.proofs.store.Store.turn_over.Goals as goal
@@ -50,3 +52,15 @@ returns-in-Ok-name_journal-clause-turns g c = record {
   broken_off = λ told snapshot host is. tt;
   cut = λ told snapshot host is reads tells which at. absurd (let no : ⊥ = cc in no);
 }
+
+pub returns-in-Err-clause-unread : goal.returns-in-Err-clause-unread
+returns-in-Err-clause-unread g c = none_by c.args.self.now _ c.args.self.now.on_second (λ yes. refl)
+    (λ yes. ap (λ j. g.D.Disk.reads (journal.disk_of j)) c.begin_other.ensures.rest) c.begin_other.ensures.begins.unread (λ yes. refl)
+
+pub returns-in-Err-name_journal-clause-unread : goal.returns-in-Err-name_journal-clause-unread
+returns-in-Err-name_journal-clause-unread g c = none_by c.args.self.now _ c.args.self.now.on_second c.name_journal.ensures.unread
+    (λ yes. ap (λ j. g.D.Disk.reads (journal.disk_of j)) c.begin_other.ensures.rest) c.begin_other.ensures.begins.unread (λ yes. refl)
+
+pub returns-in-Ok-name_journal-clause-unread : goal.returns-in-Ok-name_journal-clause-unread
+returns-in-Ok-name_journal-clause-unread g c = none_by c.args.self.now _ c.args.self.now.on_second c.name_journal.ensures.unread
+    (λ yes. ap (λ j. g.D.Disk.reads (journal.disk_of j)) c.begin_other.ensures.rest) c.begin_other.ensures.begins.unread (λ yes. refl)
