@@ -1,3 +1,4 @@
+pub mod Accounts
 pub mod Ends
 pub mod Lost
 pub mod Marks

@@ -3,9 +3,11 @@
 ghost use Rattle.std.specs.Prelude.{◌≡◌, None, IfOk};
 
 use crate::counted::counted;
-use crate::folder::make_folder;
+use crate::directory::{Found, owner_of};
+use crate::folder::{path_in, sync_folder};
 use crate::lost::put_lost;
-use crate::put::{is_passing, put_file};
+use crate::owners::RunsAs;
+use crate::put::{Whose, is_passing, make_whose, put_file};
 use nqs_outside::{Failed, Outlet};
 use std::io;
 use std::rt::HostRuntime;
@@ -14,30 +16,64 @@ use std::rt::HostRuntime;
 /// written there (its path is a folder, or leads below a file or out of the folder) goes to the
 /// folder `output.lost` beside it, under a name of its own, and a line on standard error says so; a
 /// call fails only where that can't be done either, or something is wanting that may be there
-/// later, as space. Trusted: that no job puts a link there that leads elsewhere.
+/// later, as space. Where jobs run as their owners, a file whose path's first part is a user's name
+/// is his, any other root's, and all folders are root's. Trusted: that no job puts a link there that
+/// leads elsewhere, which one that runs as its owner can't.
 #[derive(Drop)]
 pub struct FileOutlet {
     rt: HostRuntime,
     folder: String,
+    runs_as: RunsAs,
     faults: u64,
 }
 
+// The folder of outputs in that of a host, which is made where it isn't there.
+fn make_output(rt: &HostRuntime, parent: &str, whose: Whose) -> io::Result<String> {
+    let path = path_in(rt, parent, "output")?;
+    if make_whose(rt, &path, whose)? {
+        sync_folder(rt, parent)?;
+    }
+    Ok(path)
+}
+
+fn whose_of(found: &Found) -> Whose {
+    match found {
+        Found::User(user) => Whose::Shared(Some((user.uid, user.gid))),
+        Found::Root | Found::Nobody => Whose::Shared(None),
+    }
+}
+
 impl FileOutlet {
-    /// The outlet in the folder of a host. Where the folder `output` isn't there it is made.
-    pub fn open(rt: HostRuntime, folder: &str) -> io::Result<FileOutlet>
+    /// The outlet in the folder of a host whose jobs run so. Where the folder `output` isn't there it
+    /// is made.
+    pub fn open(rt: HostRuntime, folder: &str, runs_as: RunsAs) -> io::Result<FileOutlet>
         ensures { IfOk result (λ outlet. outlet.faults ≡ 0) }
     {
-        let folder = make_folder(&rt, folder, "output")?;
+        let whose = match runs_as {
+            RunsAs::Daemon => Whose::Own,
+            RunsAs::Owners => Whose::Shared(None),
+        };
+        let folder = make_output(&rt, folder, whose)?;
         Ok(FileOutlet {
             rt,
             folder,
+            runs_as,
             faults: 0,
         })
     }
 
+    // Whose the file of this path is.
+    fn whose(&self, path: &[u8]) -> io::Result<Whose> {
+        match self.runs_as {
+            RunsAs::Daemon => Ok(Whose::Own),
+            RunsAs::Owners => Ok(whose_of(&owner_of(&self.rt, path)?)),
+        }
+    }
+
     fn put(&self, path: &[u8], bytes: &[u8]) -> io::Result<()> {
-        match put_file(&self.rt, &self.folder, path, bytes) {
-            Err(e) if !is_passing(&e) => put_lost(&self.rt, &self.folder, path, bytes, &e),
+        let whose = self.whose(path)?;
+        match put_file(&self.rt, &self.folder, path, bytes, whose) {
+            Err(e) if !is_passing(&e) => put_lost(&self.rt, &self.folder, path, bytes, whose, &e),
             made => made,
         }
     }
