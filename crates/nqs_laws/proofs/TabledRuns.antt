@@ -1,5 +1,6 @@
 -- At every moment of a run the hosts tell one table.
-use Rattle.std.proofs.Common.{◌≡◌, ℕ, ◌+◌, ◌<◌, ◌≤◌, ◌⊎◌, inl, inr, Bool, true, false, not, ◌||◌, nat_le, List, [], ◌∷◌, map, length, slice_get, Option, None, Some}
+use Rattle.std.proofs.Common.{◌≡◌, ℕ, ◌+◌, ◌<◌, ◌≤◌, ◌⊎◌, inl, inr, Bool, true, false, not, ◌||◌, nat_le, List, [], ◌∷◌, map, length, slice_get, Option, None}
+use Rattle.std.proofs.Common.{Some}
 use Rattle.std.proofs.Common.{true≢false, zero, suc, refl, sym, ap, subst, ◌∙◌, arith, if◌then◌else◌}
 use Rattle.std.proofs.lemmas.Bool.{and_parts, eqb-true, not-true, leb-true, lt-ltb}
 use Rattle.std.proofs.lemmas.Option.{same_Some, none-some}
@@ -32,7 +33,7 @@ use Rattle.nqs_laws.specs.History.{history}
 use Rattle.nqs_laws.specs.Sane.{AreSane, IsSite}
 use Rattle.nqs_laws.specs.Loads.{Load, kept_load}
 use Rattle.nqs_laws.proofs.Frame.{Moment, moment, put_state, put-same, Way, change_by}
-use Rattle.nqs_laws.proofs.Sides.{head_kept}
+use Rattle.nqs_rules.proofs.Sides.{head_kept}
 use Rattle.nqs_laws.proofs.Sound.{IsSound, Keeps, Suits, me_is, host_kept, runs_keep}
 use Rattle.nqs_laws.proofs.After.{Request}
 use Rattle.nqs_laws.proofs.Makes.{HasHand}
@@ -54,7 +55,8 @@ StepOf (HandCommitted peer number) h s x t t' =
     (t' ≡ t)
     ⊎ ((y : Hand) × (r : PlainRow) × (p : Pledging) × (find_hand peer number s ≡ Some y) × (x ≡ y.id) × (t ≡ Sits h r) × (is_routing r.state ≡ true)
     × (t' ≡ Arrives h peer number p.row) × ((kept_load p.row).carried ≡ carried_of r) × (p.row.doomed ≡ false))
-StepOf (Accepted peer number) h s x t t' = (t' ≡ t) ⊎ ((p : Pledging) × (find_promise peer number s ≡ Some p) × (x ≡ p.row.id) × (t ≡ Arrives peer h number p.row)
+StepOf (Accepted peer number) h s x t t' = (t' ≡ t) ⊎ ((p : Pledging) × (find_promise peer number s ≡ Some p) × (x ≡ p.row.id)
+    × (t ≡ Arrives peer h number p.row)
     × (t' ≡ Sits h (requeued_row p.row)))
 StepOf c h s x t t' = t' ≡ updated h (find_row x (applied c s)) t
 
@@ -107,7 +109,8 @@ module _ (site : List (List ℕ)) (m : Moment) (sound : IsSound site m) (paired 
     in_host : IsOne c → IsInHost c → IsTabled (put_state h (applied c s) m.states) (row_table h (applied c s) table)
     in_host one inside =
         let host = sound.hosts h.0 s there in
-        host_tabled m.states m.packets paired h s there (me_is site m sound h s there) host.order host.calm table told c suits.fit (low_right c suits.sane) one inside
+        host_tabled m.states m.packets paired h s there (me_is site m sound h s there) host.order host.calm table told c suits.fit
+        (low_right c suits.sane) one inside
         (host_kept site h.0 s host c suits.fit suits.sane suits.short).order (λ j. (head_kept c s suits.fit j).0) (guards_of one)
 
   offer_phase : (y : Hand) → is_offered_hand y ≡ true → y.phase ≡ Offered
@@ -126,7 +129,8 @@ module _ (site : List (List ℕ)) (m : Moment) (sound : IsSound site m) (paired 
         → (o : IsInOrder s) (calm : IsConsistent s) (hand : HasHand Offered peer number s) (t : Plain) (at : At m.states peer t)
         → Advanced m.states h s (HandCommitted peer number) table
     committed peer number is suits o calm hand t at =
-        let guards = way_guards m.states m.packets paired h s there o calm way (HandCommitted peer number) is suits.fit (λ until ks e. (let no : ⊥ = cc in no)) in
+        let guards = way_guards m.states m.packets paired h s there o calm way (HandCommitted peer number) is suits.fit
+        (λ until ks e. (let no : ⊥ = cc in no)) in
         let r = row m.states m.packets paired h s there o calm table told peer number suits.fit guards hand t at in
         let p = promise m.states m.packets paired h s there o calm table told peer number suits.fit guards hand t at in
         record {

@@ -8,6 +8,7 @@ use Rattle.std.proofs.lemmas.Bool.Decides.{nat_tests}
 use Rattle.nqs_types.specs.declared.message.Message.{Message}
 use Rattle.nqs_types.specs.declared.message.Body.{Body}
 use Rattle.nqs_types.specs.declared.message.Body.TheVariants.{Offer, Ready, Refused, Commit, Done, Inquire, Abort, Stage, Staged, Ask, Answer, Ended, EndedAck}
+use Rattle.nqs_types.specs.declared.message.Body.TheVariants.{Piece}
 use Rattle.nqs_types.specs.declared.event.Event.{Event as Happening}
 use Rattle.nqs_rules.specs.Tests.{same_host}
 use Rattle.nqs_rules.specs.Sane.{is_of_site}
@@ -37,8 +38,9 @@ by_at_zero m (Ask port token user tool words script) = refl
 by_at_zero m (Answer token good text) = refl
 by_at_zero m (Ended port id start status output error) = refl
 by_at_zero m (EndedAck id start) = refl
+by_at_zero m (Piece kind port number index count bytes) = refl
 
-said_at_zero : (here : Here) (r : Result Message PacketFault) → option_map (at_moment 0) (event_said here r) ≡ event_said here r
+pub said_at_zero : (here : Here) (r : Result Message PacketFault) → option_map (at_moment 0) (event_said here r) ≡ event_said here r
 said_at_zero here (Ok m) = by (is_for here m)
   where
     by : (b : Bool) → option_map (at_moment 0) (if b then event_of m else None) ≡ (if b then event_of m else None)
@@ -60,7 +62,7 @@ event_taken : (now : ℕ) (o : Option Happening) → taken_of (event_sorted now 
 event_taken now None = refl
 event_taken now (Some e) = refl
 
-message_taken : (here : Here) (now : ℕ) (m : Message)
+pub message_taken : (here : Here) (now : ℕ) (m : Message)
     → taken_of (message_sorted here now m) ≡ option_map (at_moment now) (if is_for here m then event_of m else None)
 message_taken here now m = by (same_host here.me m.to) (is_of_site (length here.site) m.from) (are_of_site (length here.site) m.body)
   where
@@ -99,6 +101,7 @@ none_said m (Ask port token user tool words script) none = cc
 none_said m (Answer token good text) none = refl
 none_said m (Ended port id start status output error) none = cc
 none_said m (EndedAck id start) none = refl
+none_said m (Piece kind port number index count bytes) none = refl
 
 said_none : (m : Message) (b : Body) → is_said_back b ≡ true → event_by m b ≡ None
 said_none m (Offer n low q c s) said = cc
@@ -114,10 +117,11 @@ said_none m (Ask port token user tool words script) said = cc
 said_none m (Answer token good text) said = refl
 said_none m (Ended port id start status output error) said = cc
 said_none m (EndedAck id start) said = refl
+said_none m (Piece kind port number index count bytes) said = refl
 
 -- in one way
 
-module _ (here : Here) (now : ℕ) (bytes : List ℕ) (short : length bytes ≤ 49152) where
+module _ (here : Here) (now : ℕ) (bytes : List ℕ) (short : length bytes ≤ 1052672) where
   module _ (m : Message) (read : message_of bytes ≡ Ok m) where
     by_event : (o : Option Happening) → event_of m ≡ o → IsTrue (is_here here m) → IsTrue (is_known here m) → IsSorted here now bytes (event_sorted now o)
     by_event None none a k = (short, (m, read, (a, k, none_said m m.body none)))
@@ -155,8 +159,8 @@ pub is_sorted : (here : Here) (now : ℕ) (bytes : List ℕ) → IsSorted here n
 is_sorted here now bytes = by (is_whole bytes) refl
   where
     by : (b : Bool) → is_whole bytes ≡ b → IsSorted here now bytes (if b then read_sorted here now (message_of bytes) else Ignored TooLong)
-    by true fits = by_read here now bytes (let e : length bytes ≤ 49152 = grind (arith, nat_tests, fits) in e) (message_of bytes) refl
-    by false fits = (let e : 49152 < length bytes = grind (arith, nat_tests, fits) in e)
+    by true fits = by_read here now bytes (let e : length bytes ≤ 1052672 = grind (arith, nat_tests, fits) in e) (message_of bytes) refl
+    by false fits = (let e : 1052672 < length bytes = grind (arith, nat_tests, fits) in e)
 
 event_is : (now : ℕ) (o : Option Happening) (e : Happening) → option_map (at_moment now) o ≡ Some e → event_sorted now o ≡ Event e
 event_is now None e is = cc
@@ -187,11 +191,11 @@ pub taken_sorted : (here : Here) (now : ℕ) (bytes : List ℕ) (s : Sorted) →
     → taken_of s ≡ option_map (at_moment now) (event_in here (came bytes))
 taken_sorted here now bytes s is = ap taken_of is ∙ events_are_taken here now bytes
 
-pub from_fault : (here : Here) (now : ℕ) (bytes : List ℕ) (fault : PacketFault) (s : Sorted) → length bytes ≤ 49152
+pub from_fault : (here : Here) (now : ℕ) (bytes : List ℕ) (fault : PacketFault) (s : Sorted) → length bytes ≤ 1052672
     → (is_fault_of_memory fault ≡ false → Err fault ≡ message_of bytes) → HasFault fault s → s ≡ sorted here now bytes
 from_fault here now bytes fault s short answers has = has.0 ∙ sym (is_read here now bytes short (Err fault) (sym (answers has.1)))
 
-pub from_message : (here : Here) (now : ℕ) (bytes : List ℕ) (m : Message) (s : Sorted) → length bytes ≤ 49152
+pub from_message : (here : Here) (now : ℕ) (bytes : List ℕ) (m : Message) (s : Sorted) → length bytes ≤ 1052672
     → message_of bytes ≡ Ok m → s ≡ message_sorted here now m → s ≡ sorted here now bytes
 from_message here now bytes m s short read is = is ∙ sym (is_read here now bytes short (Ok m) read)
 
