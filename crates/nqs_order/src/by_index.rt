@@ -13,7 +13,8 @@ ghost use Rattle.nqs_index.specs.Indexed.{StandsForIndex, classes_in};
 ghost use Rattle.nqs_order.specs.ByIndex.{is_filled, user_allows, running_once, fewer_run, running_in_batch, fewer_in_batch, complex_allows, batch_allows};
 ghost use Rattle.nqs_order.specs.ByIndex.{is_within_limits, is_free_device, free_device, has_free_device, may_serve, kind_allows, is_eligible, startable};
 ghost use Rattle.nqs_order.specs.ByIndex.{first_in, is_open, has_open, class_served, class_allows, first_of, leads, earlier, is_ahead, better_of};
-ghost use Rattle.nqs_order.specs.ByIndex.{first_among, first_eligible, has_first, has_eligible, may_start, is_candidate, next_queue, choice_for, choice_of, pick, PicksBy};
+ghost use Rattle.nqs_order.specs.ByIndex.{first_among, first_eligible, has_first, has_eligible, may_start, is_candidate, next_queue};
+ghost use Rattle.nqs_order.specs.ByIndex.{choice_for, choice_of, pick, PicksBy};
 
 use crate::choice::{is_greater, move_to, print_on};
 use crate::eligible::is_waiting;

@@ -1,7 +1,7 @@
 //! Values that are read, one behind the other or alone, and the lists of records: a count of one
 //! byte, and as many values.
 
-ghost use Rattle.std.specs.Prelude.{◌≡◌};
+ghost use Rattle.std.specs.Prelude.{◌≡◌, ◌≤◌, length};
 ghost use Rattle.nqs_records.specs.Reading.{Reading, Answers, alone, repeated, counted, within};
 ghost use Rattle.nqs_records.specs.Fields.{u8_at, name_at};
 ghost use Rattle.nqs_records.specs.Values.{is_at_most, is_site_count};
@@ -62,7 +62,21 @@ pub fn read_alone<F, T: Read<F>>(alloc: Global, bytes: &[u8], place: u64) -> Res
     Ok(value)
 }
 
-/// So many values, one behind the other.
+// For how many of so many values memory is asked at once: each takes a byte or more of those that are
+// there.
+fn room_for(count: u64, bytes: &[u8], place: u64) -> usize
+    ensures { result ≤ length bytes.now }
+{
+    let behind = bytes.len().saturating_sub(place as usize);
+    if count < behind as u64 {
+        count as usize
+    } else {
+        behind
+    }
+}
+
+/// So many values, one behind the other. Memory is asked for at once, for no more values than there
+/// are bytes.
 pub fn repeat<F, T: Read<F>>(
     alloc: Global,
     bytes: &[u8],
@@ -72,6 +86,7 @@ pub fn repeat<F, T: Read<F>>(
     ensures { Answers (repeated count T.at bytes.now place) result }
 {
     let mut items = Vec::new(alloc);
+    items.reserve(room_for(count, bytes, place))?;
     let mut here = place;
     let mut left = count;
     while left > 0 {

@@ -40,5 +40,6 @@ returns-clause-err g c =
 
 pub returns-clause-cost : goal.returns-clause-cost
 returns-clause-cost g c v at =
-    subst (λ (w : ClassLine). PutsBy c.args.key w.line (c.put-put.new.steps - c.args.steps.now)) (same_Some c.exchange.new.value v (sym c.exchange.ensures.out ∙ at))
+    subst (λ (w : ClassLine). PutsBy c.args.key w.line (c.put-put.new.steps - c.args.steps.now))
+    (same_Some c.exchange.new.value v (sym c.exchange.ensures.out ∙ at))
     c.put-put.ensures.cost

@@ -21,9 +21,11 @@ returns-clause-taken g c v at =
     ∙ ap (λ k. slice_set k c.args.place (record { class = l.class; line = c.take.new.self })) c.exchange.ensures.items
     ∙ set_twice ls c.args.place _ _
     ∙ (λ j. slice_set ls c.args.place (record { class = l.class; line = c.take.ensures.line j }))
-    ∙ ap (λ (w : ClassLine). slice_set ls c.args.place (record { class = w.class; line = without_entry x w.line })) (same_Some l v (sym c.exchange.ensures.out ∙ at))
+    ∙ ap (λ (w : ClassLine). slice_set ls c.args.place (record { class = w.class; line = without_entry x w.line }))
+    (same_Some l v (sym c.exchange.ensures.out ∙ at))
 
 pub returns-clause-cost : goal.returns-clause-cost
 returns-clause-cost g c v at =
-    subst (λ (w : ClassLine). TakesBy c.args.key w.line (c.take.new.steps - c.args.steps.now)) (same_Some c.exchange.new.value v (sym c.exchange.ensures.out ∙ at))
+    subst (λ (w : ClassLine). TakesBy c.args.key w.line (c.take.new.steps - c.args.steps.now))
+    (same_Some c.exchange.new.value v (sym c.exchange.ensures.out ∙ at))
     c.take.ensures.cost

@@ -15,7 +15,9 @@ loop-i-preserved c = record {
 }
 
 pub returns-clause-put : goal.returns-clause-put
-returns-clause-put c = c.loop-i.invariant.so_far ∙ ap (λ (l : List (List ℕ)). c.args.out.now.items ++ lines l) (take_all c.loop-i.i c.args.texts.now c.loop-i-test.false)
+returns-clause-put c =
+    c.loop-i.invariant.so_far
+    ∙ ap (λ (l : List (List ℕ)). c.args.out.now.items ++ lines l) (take_all c.loop-i.i c.args.texts.now c.loop-i-test.false)
 
 pub returns-in_err-put_text-clause-front : goal.returns-in_err-put_text-clause-front
 returns-in_err-put_text-clause-front c =

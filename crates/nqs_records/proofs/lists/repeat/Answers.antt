@@ -6,7 +6,7 @@ use Rattle.nqs_records.proofs.lists.repeat.Goals as goal
 
 pub returns-in_err-item : goal.returns-in_err-item
 returns-in_err-item g c =
-    let p = err_from_is_err_and c.from_residual.result c.from_residual.ensures.1 in
+    let p = err_from_is_err_and c.from_residual-in_err-item.result c.from_residual-in_err-item.ensures.1 in
     let some : c.loop-left.left ≡ suc (c.loop-left.left - 1) = omega (arith, c.loop-left-test.true) in
     let is = c.loop-left.invariant ∙ ap (λ (n : ℕ). after c.loop-left.items.items (repeated n g.T.Read.at c.args.bytes.now c.loop-left.here)) some in
     rw (p.1, p.2) (λ q. stops _ c.loop-left.items.items (c.loop-left.left - 1) g.T.Read.at c.args.bytes.now c.loop-left.here _ is

@@ -16,7 +16,8 @@ returns-clause-stands g c =
     let seats = map seat_of c.args.rows.now.items in
     let sorted = c.deref.result.now in
     let moved : IsPermutation seats sorted
-    = subst (IsPermutation seats) (sym c.deref.ensures.value) (subst (λ ts. IsPermutation ts c.sort.new.seats.items) c.in_ok-seats.ensures c.sort.ensures.permutation) in
+    = subst (IsPermutation seats) (sym c.deref.ensures.value)
+    (subst (λ ts. IsPermutation ts c.sort.new.seats.items) c.in_ok-seats.ensures c.sort.ensures.permutation) in
     IfOk-weaker c.of.result (λ i. Stands i sorted) (λ i. Stands i seats) (λ i stands. permuted i seats sorted moved stands) c.of.ensures.stands
 
 pub returns-clause-most : goal.returns-clause-most
