@@ -17,14 +17,14 @@ use Rattle.nqs_store.specs.Faults.{IsLoadFault}
 use Rattle.nqs_store.specs.Images.{IsTold}
 use Rattle.nqs_store.specs.declared.fault.LoadFault.{LoadFault}
 use Rattle.nqs_store.specs.declared.fault.LoadFault.TheVariants as load
-use Rattle.nqs_node.specs.Carried.{Kept, after_kept, IsOneOrOther}
+use Rattle.nqs_node.specs.Carried.{Kept, after_kept, IsSpelled, IsOneOrOther}
 use Rattle.nqs_node.specs.Nodes.{content_of, history_of, Tells}
 use Rattle.nqs_node.specs.declared.node.Node.{Node}
 use Rattle.nqs_node.proofs.Booting.{quiet_one}
 use Rattle.nqs_node.proofs.Nothing.{told_images}
 use Rattle.nqs_node.proofs.Performing.{still_broken_off}
 use Rattle.nqs_serve.specs.Ends.{EndsWith, IsBroken}
-use Rattle.nqs_serve.specs.Keeping.{IsWhole, AreKept}
+use Rattle.nqs_serve.specs.Keeping.{AreKept}
 use Rattle.nqs_serve.specs.Moments.{TellsThroughout, IsPassed}
 use Rattle.nqs_serve.specs.Runs.{Act, Turn, idle, Begun}
 use Rattle.nqs_serve.proofs.Ending.{cut_as}
@@ -47,7 +47,7 @@ leaves node s k telling tells same =
 
 -- what the disks kept of calls, since before a boot
 pub kept_since : (a b : Active) (old mid new now : Which → History) (s : Plain) (calls : List (Stepped (List ℕ))) (failed : Kept)
-    → ((which : Which) → now which ≡ new which) → b ≡ after_kept (Some Boot) a → IsWhole a old mid (Some Boot)
+    → ((which : Which) → now which ≡ new which) → b ≡ after_kept (Some Boot) a → IsSpelled a old mid (Some Boot)
     → IsOneOrOther a old mid (Some Boot) s → AreKept b mid new (applied Boot s) calls failed → AreKept a old now s (booted ∷ calls) failed
 kept_since a b old mid new now s calls failed same active whole boot kept =
     let rest : AreKept (after_kept (Some Boot) a) mid now (applied Boot s) calls failed =

@@ -1,2 +1,3 @@
 pub mod Told
 pub mod Machine
+pub mod NextRun

@@ -14,6 +14,7 @@ ghost use Rattle.nqs_cli.specs.Parts.{names_of};
 ghost use Rattle.nqs_store.specs.declared.disks.Disks.{Disks};
 ghost use Rattle.nqs_disk.specs.declared.mem_disk.MemDisk.{MemDisk};
 ghost use Rattle.nqs_cli_tests.specs.declared.kept.Images.{Images};
+ghost use Rattle.nqs_cli_tests.specs.NextRun.{disks_in, or_else, next_disks};
 ghost use Rattle.nqs_cli_tests.specs.Told.{lent_of, back_of, fresh_disks, told_disks, fresh_wire, told_wire, told_daemon, fresh_daemon};
 
 use crate::disks::{empty_disks, settled_disks};
@@ -71,12 +72,35 @@ impl Drop for MemMachine {
     }
 }
 
-// The disks among parts that came back, which have empty ones in their place from now on.
-fn disks_of(alloc: Global, part: &mut Returned) -> Option<Disks<MemDisk>> {
+// The disks that came back with a part, if it has any.
+fn disks_in(part: Returned) -> Option<Disks<MemDisk>>
+    ensures { result ≡ disks_in part }
+{
     match part {
-        Returned::Disks(_, disks) => Some(std::mem::replace(disks, empty_disks(alloc))),
-        Returned::Daemon(_, disks, _) => Some(std::mem::replace(disks, empty_disks(alloc))),
+        Returned::Disks(_, disks) => Some(disks),
+        Returned::Daemon(_, disks, _) => Some(disks),
         Returned::Client(_) | Returned::Shepherd(_, _) => None,
+    }
+}
+
+// The first disks, where there are any, or else the second.
+fn or_else(found: Option<Disks<MemDisk>>, there: Option<Disks<MemDisk>>) -> Option<Disks<MemDisk>>
+    ensures { result ≡ or_else found there }
+{
+    match found {
+        Some(disks) => Some(disks),
+        None => there,
+    }
+}
+
+// The disks of the next run: those that came back with the last part, where it has any, or else
+// those that are there.
+fn next_disks(back: &mut Vec<Returned>, there: Option<Disks<MemDisk>>) -> Option<Disks<MemDisk>>
+    ensures { result ≡ next_disks back.old.items there }
+{
+    match back.pop() {
+        Some(part) => or_else(disks_in(part), there),
+        None => there,
     }
 }
 
@@ -123,16 +147,14 @@ impl MemMachine {
         &self.back
     }
 
-    /// Begins its lists anew, at the end of a run. The disks that came back stay.
-    pub fn begin_anew(&mut self) {
-        let alloc = self.alloc;
-        let found = match self.back.last_mut() {
-            Some(part) => disks_of(alloc, part),
-            None => None,
-        };
-        if found.is_some() {
-            self.disks = found;
-        }
+    /// Begins its lists anew, at the end of a run. The disks of the next run are those that came
+    /// back with the last part, where it has any, or else those that are there.
+    pub fn begin_anew(&mut self)
+        ensures told { machine_told self.new ≡ record { lent = Some []; back = Some []; faults = (machine_told self.old).faults } }
+        ensures disks { self.new.disks ≡ next_disks self.old.back.items self.old.disks }
+    {
+        let there = self.disks.take();
+        self.disks = next_disks(&mut self.back, there);
         self.back.clear();
         self.lent.clear();
         self.starved = false;

@@ -18,6 +18,7 @@ use Rattle.nqs_store.specs.Commits.{IsKept, IsCutAt, Keeping}
 use Rattle.nqs_store.specs.Faults.{IsScriptFault}
 use Rattle.nqs_store.specs.Hosts.{StopsShort}
 use Rattle.nqs_store.specs.Plan.{CommitsBy}
+use Rattle.nqs_store.specs.Spells.{Spells}
 use Rattle.nqs_store.specs.Stores.{history_of, active_of, plain_of, Tells}
 use Rattle.nqs_store.specs.Told.{Host}
 use Rattle.nqs_store.specs.declared.store.Store.{Store}
@@ -25,7 +26,7 @@ use Rattle.nqs_store.specs.declared.fault.StoreFault.{StoreFault}
 use Rattle.nqs_store.specs.declared.fault.StoreFault.TheVariants.{Disk}
 use Rattle.nqs_store.proofs.Composed.{idle_by}
 use Rattle.nqs_node.proofs.Nothing.{none_one, all_quiet, told_images}
-use Rattle.nqs_node.specs.Carried.{Kept, IsMade, IsCutBy, IsBrokenOff, IsOneOrOther}
+use Rattle.nqs_node.specs.Carried.{Kept, IsMade, IsSpelled, IsCutBy, IsBrokenOff, IsOneOrOther}
 use Rattle.nqs_node.specs.Planned.{IsKeptWith}
 
 -- only the spool is read
@@ -65,6 +66,12 @@ module _ (a later : Active) (stays : later ≡ a) (fails since : Which → ℕ �
       let f = subst (λ (f : Which → ℕ → Bool). IsKept later f parts old now) (λ j which i. fuse which i j) e in
       let h = subst (λ (x : Active). IsKept x fails parts old now) stays f in
       subst (λ (k : Kept). IsMade a fails old now k) with.is h
+
+  pub spelled_since : Spells later (filled c bytes) mid now → IsSpelled a old now kept
+  spelled_since s =
+      let d = subst (λ (h : Which → History). Spells later (filled c bytes) h now) (λ j which. same which j) s in
+      let e = subst (λ (x : Active). Spells x (filled c bytes) old now) stays d in
+      subst (λ (k : Kept). IsSpelled a old now k) with.is e
 
   pub broken_since : CommitsBy StopsShort later bytes mid now → IsBrokenOff a old now kept
   broken_since k =

@@ -18,7 +18,7 @@ use Rattle.nqs_store.specs.declared.disks.Disks.{Disks}
 use Rattle.nqs_store.specs.declared.fault.LoadFault.{LoadFault}
 use Rattle.nqs_store.specs.declared.fault.LoadFault.TheVariants as load
 use Rattle.nqs_store.specs.declared.store.Store.{Store}
-use Rattle.nqs_node.specs.Carried.{after_kept, IsMade, IsCutBy, IsBrokenOff, IsOneOrOther, IsBlown}
+use Rattle.nqs_node.specs.Carried.{after_kept, IsMade, IsSpelled, IsCutBy, IsBrokenOff, IsOneOrOther, IsBlown}
 use Rattle.nqs_node.specs.Nodes.{disk_of, history_of, fails_of, active_of, content_of, is_stopped, Tells}
 use Rattle.nqs_node.specs.declared.node.Node.{Node}
 
@@ -41,6 +41,9 @@ module _ {D : Type 0} {g : disk.Ghosts D} (old : Disks D) where
     -- none was to fail
     pub made : IsTrue g.tells → (a : Active) → IsActive (contents (histories_of g.history old)) a
         → IsMade a (failing_of g.fails old) (histories_of g.history old) (history_of node) (Some Boot)
+    -- and the record spells the boot
+    pub spelled : IsTrue g.tells → (a : Active) → IsActive (contents (histories_of g.history old)) a
+        → IsSpelled a (histories_of g.history old) (history_of node) (Some Boot)
     -- the active journal goes on by it
     pub active : IsTrue g.tells → (a : Active) → IsActive (contents (histories_of g.history old)) a → active_of node ≡ after_kept (Some Boot) a
     -- which calls are to fail stays

@@ -12,6 +12,7 @@ use Rattle.nqs_store.specs.Commits.{EachImage, IsKept, IsCutAt, Keeping}
 use Rattle.nqs_store.specs.Hosts.{StopsShort}
 use Rattle.nqs_store.specs.Images.{IsTold}
 use Rattle.nqs_store.specs.Plan.{CommitsBy}
+use Rattle.nqs_store.specs.Spells.{Spells}
 
 -- what is to be kept: a change with its bytes, or none
 abbrev pub Kept : Type 0
@@ -37,6 +38,12 @@ module _ (a : Active) (fails : Which → ℕ → Bool) (old now : Which → Hist
   abbrev pub IsCutBy : Kept → Plain → Which → Type 0
   IsCutBy None before which = ⊥
   IsCutBy (Some c) before which = IsCutAt a fails (stored_parts c) old now before (applied c before) which
+
+-- Just the calls of its commit were made, and its record spells it. Where there is no change there
+-- is no call.
+abbrev pub IsSpelled : Active → (old now : Which → History) → Kept → Type 0
+IsSpelled a old now None = (which : Which) → now which ≡ old which
+IsSpelled a old now (Some c) = Spells a c old now
 
 -- a part of its calls was made, of which only the last may have failed
 abbrev pub IsBrokenOff : Active → (old now : Which → History) → Kept → Type 0

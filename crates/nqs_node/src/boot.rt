@@ -16,7 +16,9 @@ ghost use Rattle.nqs_rules.specs.World.{boot_output};
 ghost use Rattle.nqs_rules.specs.Plain.{map_row, map_state};
 ghost use Rattle.nqs_rules.specs.Journals.{is_second};
 ghost use Rattle.nqs_store.specs.Reads.{AsksAtMost, AsksNone, of_reading};
-ghost use Rattle.nqs_store.specs.Stores.{is_stopped as is_store_stopped, disk_of as store_disk, AsksNone as StoreAsksNone};
+ghost use Rattle.nqs_store.specs.Spells.{Spells};
+ghost use Rattle.nqs_store.specs.Stores.{is_stopped as is_store_stopped, disk_of as store_disk, active_of, history_of, Tells};
+ghost use Rattle.nqs_store.specs.Stores.{AsksNone as StoreAsksNone};
 ghost use Rattle.nqs_store.specs.Disks.{disk_at, histories_of, contents};
 ghost use Rattle.nqs_store.specs.Images.{IsTold};
 ghost use Rattle.nqs_store.specs.Sound.{IsSoundHost};
@@ -86,6 +88,8 @@ fn begin<D: Disk>(
     ensures only { (which : Which) (place : ℕ) → IsErrOf result (LoadFault.NotNqs which place) → ⊥ }
     ensures outputs { (f : Extent → List ℕ) → OnOk result (out.new.items ≡ out.old.items ++ filter_map boot_output (map_state f (content state.old)).rows) }
     ensures makes { Makes store.old store.new (content state.old) (content state.new) Boot [] LoadFault.Disk (LoadFault.Memory want) result }
+    ensures spelled { IsTrue D.tells → Tells store.old (content state.old)
+        → OnOk result (Spells (active_of store.old) Boot (history_of store.old) (history_of store.new)) }
     ensures unread { StoreAsksNone store.old store.new }
 {
     match outputs_of(alloc, state) {

@@ -1,10 +1,12 @@
 //! A node carries out a plan.
 
-ghost use Rattle.std.specs.Prelude.{◌≡◌, false, IfOk, length};
+ghost use Rattle.std.specs.Prelude.{◌≡◌, false, IsTrue, IfOk, OnOk, length};
+ghost use Rattle.nqs_state.specs.State.{Plain};
 ghost use Rattle.nqs_store.specs.Reads.{of_spool};
 ghost use Rattle.nqs_store.specs.Sound.{IsSoundHost};
+ghost use Rattle.nqs_node.specs.Carried.{Kept, IsSpelled};
 ghost use Rattle.nqs_node.specs.Leaves.{Leaves, CarriesOut};
-ghost use Rattle.nqs_node.specs.Planned.{MayBeDone};
+ghost use Rattle.nqs_node.specs.Planned.{IsKeptWith, MayBeDone};
 
 use crate::node::Node;
 use crate::perform::perform;
@@ -14,7 +16,7 @@ use nqs_types::{Output, Plan};
 use std::alloc::Global;
 
 impl<D: Disk> Node<D> {
-    ghost use Rattle.nqs_node.specs.Nodes.{content_of, is_stopped, AsksAtMost};
+    ghost use Rattle.nqs_node.specs.Nodes.{active_of, content_of, history_of, is_stopped, Tells, AsksAtMost};
 
     // Carries out a plan of this host: reads, keeps and makes it, and adds to `out` what goes out.
     // Answers whether the plan halts its host.
@@ -30,6 +32,8 @@ impl<D: Disk> Node<D> {
         ensures leaves { Leaves self.old self.new out.old out.new result }
         ensures halts { IfOk result (λ halts. halts ≡ plan.halts) }
         ensures carries { CarriesOut self.old self.new out.old.items out.new.items plan result }
+        ensures spelled { IsTrue D.tells → (s : Plain) → Tells self.old s → (kept : Kept) → IsKeptWith plan.change plan.puts kept
+            → OnOk result (IsSpelled (active_of self.old) (history_of self.old) (history_of self.new) kept) }
         // The spool is asked once for each read, and no other disk.
         ensures asks { AsksAtMost self.old self.new (of_spool (length plan.reads)) }
     {

@@ -1,12 +1,14 @@
 //! A change of a host is kept on its disks, and then made.
 
-ghost use Rattle.std.specs.Prelude.{IsTrue, IsErrOf};
+ghost use Rattle.std.specs.Prelude.{IsTrue, IsErrOf, OnOk};
 ghost use Rattle.nqs_state.specs.State.{content};
 ghost use Rattle.nqs_base.specs.Want.{want};
+ghost use Rattle.nqs_rules.specs.Filled.{filled};
 ghost use Rattle.nqs_rules.specs.Sane.{is_sane_change};
 ghost use Rattle.nqs_store.specs.Calls.{MayCommit};
 ghost use Rattle.nqs_store.specs.Sound.{IsSoundHost};
-ghost use Rattle.nqs_store.specs.Stores.{is_stopped, AsksNone};
+ghost use Rattle.nqs_store.specs.Spells.{Spells};
+ghost use Rattle.nqs_store.specs.Stores.{is_stopped, active_of, history_of, Tells, AsksNone};
 ghost use Rattle.nqs_node.specs.Makes.{Makes};
 
 use nqs_base::Bytes;
@@ -32,6 +34,8 @@ pub(crate) fn keep<D: Disk>(
     requires may { MayCommit (content state.old) change puts.now }
     ensures stopped { IsErrOf result StoreFault.Stopped → IsTrue (is_stopped store.old) }
     ensures makes { Makes store.old store.new (content state.old) (content state.new) change puts.now StoreFault.Disk (StoreFault.Memory want) result }
+    ensures spelled { IsTrue D.tells → Tells store.old (content state.old)
+        → OnOk result (Spells (active_of store.old) (filled change puts.now) (history_of store.old) (history_of store.new)) }
     // No disk is read.
     ensures unread { AsksNone store.old store.new }
 {

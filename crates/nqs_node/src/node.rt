@@ -18,7 +18,7 @@ ghost use Rattle.nqs_store.specs.Reads.{of_spool, of_reading};
 ghost use Rattle.nqs_store.specs.Sound.{IsSoundHost};
 ghost use Rattle.nqs_store.specs.Stores.{is_stopped as is_store_stopped};
 ghost use Rattle.nqs_back.specs.Back.{comebacks, comes_back};
-ghost use Rattle.nqs_node.specs.Carried.{started};
+ghost use Rattle.nqs_node.specs.Carried.{started, IsSpelled};
 ghost use Rattle.nqs_node.specs.Idle.{is_idle};
 ghost use Rattle.nqs_node.specs.Reading.{reads_for};
 
@@ -70,6 +70,10 @@ impl<D: Disk> Node<D> {
         ensures leaves { Leaves self.old self.new out.old out.new result }
         ensures takes { TakesStep self.old self.new out.old.items out.new.items (step event.old) result }
 
+        // What its commit writes to the journal is the record that spells the change, byte by byte.
+        ensures spelled { IsTrue D.tells → (s : Plain) → Tells self.old s
+            → OnOk result (IsSpelled (active_of self.old) (history_of self.old) (history_of self.new) (step event.old s).change) }
+
         // The spool is asked once for each output whose bytes are kept, and no other disk.
         ensures asks { AsksAtMost self.old self.new (of_spool (reads_for (step event.old (bare self.old)).outputs)) }
 
@@ -119,6 +123,10 @@ impl<D: Disk> Node<D> {
         requires sound { IsSoundHost (content_of self.old) }
         ensures leaves { Leaves self.old self.new out.old out.new result }
         ensures takes { TakesStep self.old self.new out.old.items out.new.items (started now) result }
+
+        // What its commit writes to the journal is the record that spells the start.
+        ensures spelled { IsTrue D.tells → (s : Plain) → Tells self.old s
+            → OnOk result (IsSpelled (active_of self.old) (history_of self.old) (history_of self.new) (started now s).change) }
 
         // The spool is asked once for each output whose bytes are kept, and no other disk.
         ensures asks { AsksAtMost self.old self.new (of_spool (reads_for (started now (bare self.old)).outputs)) }

@@ -1,14 +1,15 @@
 //! What is planned is read, kept and made, all over the disks of a host.
 
-ghost use Rattle.std.specs.Prelude.{◌≡◌, Option, false, IsTrue, IfSome, length};
+ghost use Rattle.std.specs.Prelude.{◌≡◌, Option, false, IsTrue, IfSome, OnOk, length};
 ghost use Rattle.nqs_state.specs.State.{content};
 ghost use Rattle.nqs_store.specs.Sound.{IsSoundHost};
 ghost use Rattle.nqs_store.specs.Reads.{of_spool};
-ghost use Rattle.nqs_store.specs.Stores.{is_stopped, AsksAtMost};
+ghost use Rattle.nqs_store.specs.Stores.{is_stopped, active_of, history_of, Tells, AsksAtMost};
+ghost use Rattle.nqs_node.specs.Carried.{Kept, IsSpelled};
 ghost use Rattle.nqs_node.specs.Fills.{Fills};
 ghost use Rattle.nqs_node.specs.Idle.{is_idle};
 ghost use Rattle.nqs_node.specs.Makes.{Performs};
-ghost use Rattle.nqs_node.specs.Planned.{MayBeKept};
+ghost use Rattle.nqs_node.specs.Planned.{IsKeptWith, MayBeKept};
 ghost use Rattle.nqs_node.specs.Reading.{AreLiveReads};
 
 use crate::keep::keep;
@@ -41,6 +42,8 @@ pub(crate) fn perform<D: Disk>(
     ensures rests { IsTrue (is_idle idle.new (content state.new)) }
     ensures fills { Fills store.old reads.now outputs.old.items outputs.new.items result }
     ensures performs { Performs store.old store.new (content state.old) (content state.new) change puts.now result }
+    ensures spelled { IsTrue D.tells → Tells store.old (content state.old) → (kept : Kept) → IsKeptWith change puts.now kept
+        → OnOk result (IsSpelled (active_of store.old) (history_of store.old) (history_of store.new) kept) }
     // The spool is asked once for each read, and no other disk.
     ensures asks { AsksAtMost store.old store.new (of_spool (length reads.now)) }
 {

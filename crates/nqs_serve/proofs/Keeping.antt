@@ -11,12 +11,12 @@ use Rattle.nqs_rules.specs.Stepped.{Stepped, quiet}
 use Rattle.nqs_store.specs.Active.{Active}
 use Rattle.nqs_store.specs.Commits.{EachImage}
 use Rattle.nqs_store.specs.Images.{IsTold}
-use Rattle.nqs_node.specs.Carried.{Kept, after_kept, IsBrokenOff, IsOneOrOther}
+use Rattle.nqs_node.specs.Carried.{Kept, after_kept, IsBrokenOff, IsOneOrOther, IsSpelled}
 use Rattle.nqs_node.specs.Nodes.{active_of, content_of, history_of}
 use Rattle.nqs_node.specs.declared.node.Node.{Node}
 use Rattle.nqs_node.proofs.Nothing.{told_images}
 use Rattle.nqs_serve.specs.Events.{Here}
-use Rattle.nqs_serve.specs.Keeping.{IsWhole, AreKept, active_after, Keeps, KeepsTill}
+use Rattle.nqs_serve.specs.Keeping.{AreKept, active_after, Keeps, KeepsTill}
 use Rattle.nqs_serve.specs.Nodes.{Knows}
 use Rattle.nqs_serve.specs.Runs.{Act, Turn, turn, after, IsRun, run_calls}
 use Rattle.nqs_serve.proofs.Acts.{calls_lead}
@@ -61,7 +61,7 @@ module _ {D : Type 0} {g : disk.Ghosts D} where
   )
 
   -- one call was made
-  pub kept_one : (a b : Node D g) (s : Plain) (x : Stepped (List ℕ)) → IsWhole (active_of a) (history_of a) (history_of b) x.change
+  pub kept_one : (a b : Node D g) (s : Plain) (x : Stepped (List ℕ)) → IsSpelled (active_of a) (history_of a) (history_of b) x.change
       → IsOneOrOther (active_of a) (history_of a) (history_of b) x.change s → active_of b ≡ after_kept x.change (active_of a) → Knows b (after_step x s)
       → Keeps a b s (x ∷ [])
   kept_one a b s x whole moments active knows =
@@ -84,11 +84,11 @@ module _ {D : Type 0} {g : disk.Ghosts D} where
 
   -- nothing was to be done behind them
   pub kept_quiet : (a b c : Node D g) (s : Plain) (xs : List (Stepped (List ℕ))) (x : Stepped (List ℕ)) → x ≡ quiet → Keeps a b s xs
-      → Knows b (after_starts xs s) → IsWhole (active_of b) (history_of b) (history_of c) x.change → active_of c ≡ after_kept x.change (active_of b)
+      → Knows b (after_starts xs s) → IsSpelled (active_of b) (history_of b) (history_of c) x.change → active_of c ≡ after_kept x.change (active_of b)
       → Keeps a c s xs
   kept_quiet a b c s xs x none kept knows whole active =
       let still : (which : Which) → history_of c which ≡ history_of b which =
-      subst (λ (y : Stepped (List ℕ)). IsWhole (active_of b) (history_of b) (history_of c) y.change) none whole in
+      subst (λ (y : Stepped (List ℕ)). IsSpelled (active_of b) (history_of b) (history_of c) y.change) none whole in
       let same : active_of c ≡ active_of b = subst (λ (y : Stepped (List ℕ)). active_of c ≡ after_kept y.change (active_of b)) none active in
       (kept_wanting a b c s xs kept knows still, same ∙ kept.1)
 

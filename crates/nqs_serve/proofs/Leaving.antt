@@ -1,27 +1,24 @@
 -- What calls leave of a node, one after the other, and what a call of the node leaves itself.
-use Rattle.std.proofs.Common.{◌≡◌, ◌∙◌, ℕ, Bool, None, Some, false, List, length, map, IsErrOf, Ok, Err, refl, ap, arith}
+use Rattle.std.proofs.Common.{◌≡◌, ◌∙◌, ℕ, IsTrue, false, List, length, map, IsErrOf, Ok, Err, refl, ap, arith}
 use Rattle.std.specs.Global.{Vec}
 use Rattle.std.specs.declared.result.Result.{Result}
 use Rattle.nqs_base.specs.Want.{want}
 use Rattle.nqs_state.specs.State.{Plain}
 use Rattle.nqs_types.specs.declared.event.Output.{Output}
 use Rattle.nqs_types.specs.declared.world.Which.{Which}
-use Rattle.nqs_outside.specs.History.{History}
 use Rattle.nqs_outside.specs.declared.disk.Disk as disk
 use Rattle.nqs_outside.proofs.Roses.{rose_since}
 use Rattle.nqs_rules.specs.Stepped.{Stepped, shown}
-use Rattle.nqs_store.specs.Active.{Active}
 use Rattle.nqs_store.specs.Sound.{IsSoundHost}
-use Rattle.nqs_node.specs.Carried.{Kept, IsMade}
+use Rattle.nqs_node.specs.Carried.{IsSpelled}
 use Rattle.nqs_node.specs.Leaves as nodes
-use Rattle.nqs_node.specs.Nodes.{bare, content_of, is_stopped}
+use Rattle.nqs_node.specs.Nodes.{active_of, bare, content_of, history_of, is_stopped, Tells}
 use Rattle.nqs_node.specs.Reading.{AreShort}
 use Rattle.nqs_store.specs.declared.fault.StoreFault.{StoreFault}
 use Rattle.nqs_store.specs.declared.fault.StoreFault.TheVariants as fault
 use Rattle.nqs_node.specs.declared.node.Node.{Node}
 use Rattle.nqs_base.proofs.Plain.{anyway}
 pub use Rattle.nqs_node.proofs.Places.{no_error}
-use Rattle.nqs_serve.specs.Keeping.{IsWhole}
 use Rattle.nqs_serve.specs.Leaves.{Cuts, Leaves, TakesStep}
 use Rattle.nqs_serve.specs.Sends.{AreRight}
 use Rattle.nqs_serve.specs.declared.cut.Cut.{Cut}
@@ -90,11 +87,6 @@ cut_memory : (e : StoreFault) (k : Cut) → Cuts e k → k ≡ cut.Memory want �
 cut_memory e (cut.Disk which) cuts is = cc
 cut_memory e (cut.Memory memory) cuts is = cc
 
--- the calls of a change that was made
-made_whole : (a : Active) (fails : Which → ℕ → Bool) (old now : Which → History) (kept : Kept) → IsMade a fails old now kept → IsWhole a old now kept
-made_whole a fails old now None made = made
-made_whole a fails old now (Some c) made = made.calls
-
 -- what a call of the node leaves that went well, or that a fault cut off
 
 module _ {D T : Type 0} {g : disk.Ghosts D} (old now : Node D g) where
@@ -119,8 +111,9 @@ module _ {D T : Type 0} {g : disk.Ghosts D} (old now : Node D g) where
 
   pub ok_taken : (was says : List Output) (step : Plain → Stepped (List ℕ)) (x : T) → AreRight 16 was → AreShort was
       → AreRight 16 (map shown (step (bare old)).outputs) → AreShort (map shown (step (bare old)).outputs)
+      → (IsTrue g.tells → (s : Plain) → Tells old s → IsSpelled (active_of old) (history_of old) (history_of now) (step s).change)
       → nodes.TakesStep old now was says step (Ok x) → TakesStep old now was says step (Ok x)
-  ok_taken was says step x was_right was_short right short takes = record {
+  ok_taken was says step x was_right was_short right short spelled takes = record {
     right = alike_right 16 _ _ _ takes.alike was_right right;
     short = takes.short was_short short;
     told = λ s knows. let did = takes.carries s knows.1 in ((knows.0, did.told knows.0 s knows.1), did.outputs knows.0 s knows.1);
@@ -130,7 +123,7 @@ module _ {D T : Type 0} {g : disk.Ghosts D} (old now : Node D g) where
     unmade = tt;
     active = λ s knows. (takes.carries s knows.1).active;
     moments = λ s knows. (takes.carries s knows.1).any_moment knows.0 s knows.1;
-    whole = λ s knows. made_whole _ _ _ _ _ ((takes.carries s knows.1).made knows.0);
+    whole = λ s knows. spelled knows.0 s knows.1;
     broken_off = λ s knows. tt;
     still = λ s knows is. absurd (no_error x (cut.Memory want) is);
   }

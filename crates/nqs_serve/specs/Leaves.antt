@@ -10,13 +10,12 @@ use Rattle.nqs_outside.specs.declared.disk.Disk as disk
 use Rattle.nqs_rules.specs.Starts.{after_step}
 use Rattle.nqs_rules.specs.Stepped.{Stepped}
 use Rattle.nqs_store.specs.Sound.{IsSoundHost}
-use Rattle.nqs_node.specs.Carried.{after_kept, IsBrokenOff, IsOneOrOther}
+use Rattle.nqs_node.specs.Carried.{after_kept, IsSpelled, IsBrokenOff, IsOneOrOther}
 use Rattle.nqs_node.specs.Nodes as nodes
 use Rattle.nqs_node.specs.Reading.{AreShort}
 use Rattle.nqs_store.specs.declared.fault.StoreFault.{StoreFault}
 use Rattle.nqs_store.specs.declared.fault.StoreFault.TheVariants as fault
 use Rattle.nqs_node.specs.declared.node.Node.{Node}
-use Rattle.nqs_serve.specs.Keeping.{IsWhole}
 use Rattle.nqs_serve.specs.Nodes.{Knows}
 use Rattle.nqs_serve.specs.Sends.{AreRight}
 use Rattle.nqs_serve.specs.Steps.{said}
@@ -66,8 +65,8 @@ module _ {D : Type 0} {g : disk.Ghosts D} {T : Type 0} (old now : Node D g) (was
     -- the one after it
     pub moments : (s : Plain) → Knows old s
         → IsOneOrOther (nodes.active_of old) (nodes.history_of old) (nodes.history_of now) (step s).change s
-    -- at Ok just the calls of its change's commit were made
-    pub whole : (s : Plain) → Knows old s → OnOk result (IsWhole (nodes.active_of old) (nodes.history_of old) (nodes.history_of now) (step s).change)
+    -- at Ok just the calls of its change's commit were made, and its record spells it
+    pub whole : (s : Plain) → Knows old s → OnOk result (IsSpelled (nodes.active_of old) (nodes.history_of old) (nodes.history_of now) (step s).change)
     -- at a fault a part of them
     pub broken_off : (s : Plain) → Knows old s
         → OnErr result (IsBrokenOff (nodes.active_of old) (nodes.history_of old) (nodes.history_of now) (step s).change)

@@ -25,11 +25,14 @@ use Rattle.nqs_rules.specs.Applied.{applied}
 use Rattle.nqs_rules.specs.Filled.{filled}
 use Rattle.nqs_rules.specs.Journals.{is_second, journal_on}
 use Rattle.nqs_rules.specs.World.{spool_calls}
+use Rattle.nqs_records.specs.Changes.{spelling}
+use Rattle.nqs_records.specs.Extents.{with_extents}
 use Rattle.nqs_store.specs.Told.{Host, told_by}
 use Rattle.nqs_store.specs.Live.{live}
 use Rattle.nqs_store.specs.Active.{Active, IsActive, recorded}
 use Rattle.nqs_store.specs.Hosts.{failed_on, on, part, Runs, StopsShort as HostStops}
 use Rattle.nqs_store.specs.Plan.{puts_calls, change_calls}
+use Rattle.nqs_store.specs.Spells.{SpellsBy, spelling_at}
 use Rattle.nqs_store.specs.Puts.{place_of}
 use Rattle.nqs_store.specs.Putting.{ArePartlyPut, ArePutFor}
 use Rattle.nqs_store.specs.Images.{IsTold, TellsOneOf}
@@ -41,6 +44,8 @@ use Rattle.nqs_store.specs.Stores.{Tells, plain_of, history_of, fails_of, is_sta
 use Rattle.nqs_store.specs.declared.store.Store.{Store}
 use Rattle.nqs_store.proofs.TellsNow.{only_image, active_image}
 use Rattle.nqs_store.proofs.EachDisk.{each_of, with_disk, but_disk, journal_apart, stands_on, history_on}
+use Rattle.nqs_store.proofs.Filled.{filled_bytes}
+use Rattle.nqs_store.proofs.Spelling.{spelled_at}
 use Rattle.nqs_store.proofs.Runs.{cut_short, never_short, stops_behind}
 use Rattle.nqs_store.proofs.HostRuns.{part_own, part_other, part_append, same_or, runs_on, runs_both, moments_both, moments_weaker, on_stops, last_stops}
 use Rattle.nqs_store.proofs.Committed.{Keeps, IsPut, told_before, named_image, stands_image, append_moments, put_moments}
@@ -210,6 +215,25 @@ module _ {D : Type 0} {g : disk.Ghosts D} (old now : Store D g) (puts : List (Li
                       opened.stands,
                 );
               };
+        }
+
+    -- and the record spells the change
+    pub all_spelled : HasAppended (journal_in old.on_second old) (journal_in old.on_second now) text → Tells old host
+        → SpellsBy (change_calls (active_of old)) (filled change puts) o n
+    all_spelled whole is_told =
+        let gate = journal.gate_of (journal_in old.on_second old) in
+        let plan = append_calls gate text in
+        let run = runs_both o w n (on Spool (puts_calls places puts)) (on x plan) puts_run (journal_run plan (whole.made yes)) in
+        let stored = filled_bytes change puts (is_put is_told).many in
+        let spells : text ≡ spelling_at places (filled change puts) =
+        done.spelled ∙ ap spelling (done.change ∙ ap (with_extents change) done.are_put.is)
+        ∙ spelled_at change puts (content (spool.history_of mid)) done.are_put.added (is_put is_told).many
+        (done.are_put.held yes (live host) is_told.spool) in
+        record {
+          places = places;
+          gate = gate;
+          many = many ∙ ap length (sym stored);
+          made = subst (Runs o n) (λ j. change_calls (active_of old) places (sym stored j) gate (spells j)) run;
         }
 
   module _ (yes : IsTrue g.tells) (is_told : Tells old host) (root : n Root ≡ o Root) where

@@ -1,9 +1,12 @@
 -- A commit from its two parts: a checkpoint, where one is due, and the calls of the change.
 use Rattle.std.proofs.Common.{◌≡◌, inl, inr, ℕ, ◌+◌, ◌≤◌, Bool, true, false, not, IsTrue, if◌then◌else◌, List, [], ◌∷◌, ◌++◌, length, map, Ok, refl, sym}
-use Rattle.std.proofs.Common.{ap, true≢false}
+use Rattle.std.proofs.Common.{OnOk, ap, true≢false}
 use Rattle.std.proofs.Common.{subst, ◌∙◌, arith, length-append}
 use Rattle.std.proofs.lemmas.List.{length-map, append-nil}
+use Rattle.std.proofs.lemmas.Result.{on_ok_weaker}
+use Rattle.std.specs.declared.result.Result.{Result}
 use Rattle.nqs_state.specs.State.{Plain}
+use Rattle.nqs_types.specs.declared.change.Change.{Change}
 use Rattle.nqs_types.specs.declared.world.Which.{Which}
 use Rattle.nqs_types.specs.declared.world.Which.TheVariants.{Root, Spool}
 use Rattle.nqs_outside.specs.History.{Call, History, content, extended, state, moment}
@@ -11,12 +14,14 @@ use Rattle.nqs_outside.specs.declared.disk.Disk as disk
 use Rattle.nqs_journal.specs.Plan.{append_calls, begin_calls, front_calls}
 use Rattle.nqs_journal.specs.Text.{snapshot_front}
 use Rattle.nqs_rules.specs.Journals.{journal_on, is_due, byte_of}
+use Rattle.nqs_rules.specs.Stepped.{stored_parts}
 use Rattle.nqs_rules.specs.World.{spool_calls}
 use Rattle.nqs_snapshot.specs.Reading.{snapshot_of}
 use Rattle.nqs_store.specs.Told.{Host}
 use Rattle.nqs_store.specs.Active.{Active, journal_of, other_of, turned_to, ready}
 use Rattle.nqs_store.specs.Hosts.{HostCall, failed_on, on, part, Runs, StopsShort as HostStops}
 use Rattle.nqs_store.specs.Plan.{puts_calls, change_calls, checkpoint_calls, due_calls, commit_calls, CommitsBy}
+use Rattle.nqs_store.specs.Spells.{SpellsBy, Spells, spelling_at}
 use Rattle.nqs_store.specs.Images.{IsTold, TellsOneOf}
 use Rattle.nqs_store.specs.Moments.{Moments}
 use Rattle.nqs_store.specs.Commits.{AreClear, FailsFirst, LeavesHost, IsPast, calls_before, record_moment, root_calls, IsKept, IsBegun, HasOneMore}
@@ -424,3 +429,47 @@ module _ {D : Type 0} {g : disk.Ghosts D} where
             (subst (IsCutOn b fails puts (history_of old) (history_of now) before later) is cut)
         by false is cut = subst (λ s. IsCutAt b fails puts (history_of old) (history_of now) before later (journal_on s)) (sym is)
             (subst (IsCutOn b fails puts (history_of old) (history_of now) before later) is cut)
+
+-- The same of a change whose record spells it.
+
+-- where no checkpoint is due
+here_spells : (a : Active) (old now : Which → History) (c : Change (List ℕ)) → is_due a.records ≡ false → SpellsBy (change_calls a) c old now
+    → Spells a c old now
+here_spells a old now c not_due s = (
+  [],
+  record {
+    places = s.places;
+    gate = s.gate;
+    many = s.many;
+    made = subst (Runs old now) (sym (here_calls a not_due [] s.places (stored_parts c) s.gate (spelling_at s.places c))) s.made;
+  },
+)
+
+-- behind a checkpoint
+there_spells : (a b : Active) (old mid now : Which → History) (c : Change (List ℕ)) (snapshot : List ℕ) → is_due a.records ≡ true → b ≡ turned_to a
+    → Runs old mid (checkpoint_calls a snapshot) → SpellsBy (change_calls b) c mid now → Spells a c old now
+there_spells a b old mid now c snapshot due turned first s = (
+  snapshot,
+  record {
+    places = s.places;
+    gate = s.gate;
+    many = s.many;
+    made = subst (Runs old now)
+        (sym (there_calls a due snapshot s.places (stored_parts c) s.gate (spelling_at s.places c)
+        ∙ ap (λ (d : Active). checkpoint_calls a snapshot ++ change_calls d s.places (stored_parts c) s.gate (spelling_at s.places c)) (sym turned)))
+        (runs_both old mid now (checkpoint_calls a snapshot) (change_calls b s.places (stored_parts c) s.gate (spelling_at s.places c)) first s.made);
+  },
+)
+
+module _ {D : Type 0} {g : disk.Ghosts D} {E : Type 0} (r : Result (Unit {0}) E) (old now : Store D g) (c : Change (List ℕ)) where
+  pub here_spelled : is_due (active_of old).records ≡ false → OnOk r (SpellsBy (change_calls (active_of old)) c (history_of old) (history_of now))
+      → OnOk r (Spells (active_of old) c (history_of old) (history_of now))
+  here_spelled not_due = on_ok_weaker r (here_spells (active_of old) (history_of old) (history_of now) c not_due)
+
+  pub there_spelled : (mid : Store D g) (host : Host) (snapshot : List ℕ) → is_due (active_of old).records ≡ true → active_of mid ≡ turned_to (active_of old)
+      → Turning (λ planned run. run ≡ planned) old mid snapshot host
+      → OnOk r (SpellsBy (change_calls (active_of mid)) c (history_of mid) (history_of now))
+      → OnOk r (Spells (active_of old) c (history_of old) (history_of now))
+  there_spelled mid host snapshot due turned t = on_ok_weaker r
+      (there_spells (active_of old) (active_of mid) (history_of old) (history_of mid) (history_of now) c snapshot due turned
+      (subst (Runs (history_of old) (history_of mid)) t.stands t.made))

@@ -24,6 +24,7 @@ pub mod ShortParts
 pub mod Lengths
 pub mod PlainSame
 pub mod Committed
+pub mod Spelling
 pub mod Changed
 pub mod Turning
 pub mod Turned

@@ -22,6 +22,7 @@ use Rattle.nqs_store.specs.Stores.{Tells, disk_of, history_of, fails_of, is_star
 use Rattle.nqs_store.specs.declared.store.Store.{Store}
 use Rattle.nqs_store.specs.Hosts.{StopsShort}
 use Rattle.nqs_store.specs.Plan.{CommitsBy}
+use Rattle.nqs_store.specs.Spells.{Spells}
 use Rattle.nqs_store.specs.Commits.{IsKept, IsCutAt, Keeping}
 use Rattle.nqs_store.specs.Calls.{MayStop, IsLeft, KeepsChange, Commits}
 use Rattle.nqs_store.proofs.EachDisk.{each_disk}
@@ -116,6 +117,11 @@ module _ {D : Type 0} {g : disk.Ghosts D} (old now : Store D g) (root : now.root
         cut = λ told tells which is. cut_from r new puts host (applied (filled change puts)) which (m.cut told (tells_now tells) which is);
         any_moment = λ told tells. moments_from r new puts host (applied (filled change puts)) (m.any_moment told (tells_now tells));
       }
+
+      pub spelled_from : (c : Change (List ℕ)) → (IsTrue g.tells → Tells now host → OnOk r (Spells (active_of now) c (history_of now) (history_of new)))
+          → IsTrue g.tells → Tells old host → OnOk r (Spells (active_of old) c (history_of old) (history_of new))
+      spelled_from c is told tells = subst (λ (h : Which → History). OnOk r (Spells (active_of old) c h (history_of new))) history_path
+          (subst (λ (a : Active). OnOk r (Spells a c (history_of now) (history_of new))) active_path (is told (tells_now tells)))
 
       pub keeps_from : (after : Change Extent) (next : Active → Active) → KeepsChange now new change after puts host (next (active_of now)) r
           → KeepsChange old new change after puts host (next (active_of old)) r

@@ -69,6 +69,7 @@ module _ {D : Type 0} {g : disk.Ghosts D} (was now mid : Spool D g) (same : disk
           change = done.change;
           stands = done.stands;
           read = done.read;
+          spelled = done.spelled;
         })
 
   pub places_many : (puts : List (List ℕ)) (extents : List Extent) (put : ArePut puts was mid [] extents) → length (map place_of put.added) ≡ length puts

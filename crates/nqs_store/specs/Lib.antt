@@ -13,6 +13,7 @@ pub mod Frees
 pub mod Puts
 pub mod Hosts
 pub mod Plan
+pub mod Spells
 pub mod Putting
 pub mod Images
 pub mod Reads

@@ -8,7 +8,7 @@ use Rattle.nqs_spool.specs.Spooled.{history_of, Tells}
 use Rattle.nqs_spool.specs.declared.spool.Spool.{Spool}
 use Rattle.nqs_types.specs.declared.change.Change.{Change}
 use Rattle.nqs_records.specs.Values.{IsExtent}
-use Rattle.nqs_records.specs.Changes.{MayStand}
+use Rattle.nqs_records.specs.Changes.{MayStand, spelling}
 use Rattle.nqs_records.specs.Kinds.{record_of}
 use Rattle.nqs_records.specs.Extents.{with_extents}
 use Rattle.nqs_store.specs.Accounts.{Adds}
@@ -34,10 +34,11 @@ module _ {D : Type 0} {g : disk.Ghosts D} where
     pub tells : (live more : List Extent) → Tells old live → Adds live added more → Tells now more
     pub held : IsTrue g.tells → (live : List Extent) → Tells old live → HoldEach (content (history_of now)) added puts
 
-  -- The same for a change: its extents are set, and the text is read as it.
+  -- The same for a change: its extents are set, and the text spells it and is read as it.
   pub record ArePutFor (before now : Change Extent) (puts : List (List ℕ)) (text : List ℕ) (old new : Spool D g) : Type 0 where
     pub extents : List Extent
     pub are_put : ArePut puts old new [] extents
     pub change : now ≡ with_extents before extents
     pub stands : MayStand now
     pub read : record_of text ≡ Ok now
+    pub spelled : text ≡ spelling now

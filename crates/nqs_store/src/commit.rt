@@ -1,14 +1,17 @@
 //! Keeping a change of a host.
 
-ghost use Rattle.std.specs.Prelude.{◌≡◌, ◌↔◌, false, IsTrue, IsErrOf, IfErr, vec_capacity};
+ghost use Rattle.std.specs.Prelude.{◌≡◌, ◌↔◌, false, IsTrue, IsErrOf, IfErr, OnOk, vec_capacity};
 ghost use Rattle.nqs_base.specs.Want.{want};
 ghost use Rattle.nqs_state.specs.State.{content};
+ghost use Rattle.nqs_rules.specs.Filled.{filled};
 ghost use Rattle.nqs_rules.specs.Journals.{is_due};
 ghost use Rattle.nqs_snapshot.specs.Spelling.{state_field};
 ghost use Rattle.nqs_store.specs.Active.{ready, recorded};
 ghost use Rattle.nqs_store.specs.Calls.{MayCommit, MayKeep, IsLeft, MayStop, KeepsChange, Records, Commits, Checkpoints};
 ghost use Rattle.nqs_store.specs.Faults.{IsDisk};
+ghost use Rattle.nqs_store.specs.Plan.{change_calls};
 ghost use Rattle.nqs_store.specs.Sound.{IsSoundHost};
+ghost use Rattle.nqs_store.specs.Spells.{SpellsBy, Spells};
 
 use crate::checkpoint::{checkpoint_text, journal_disk};
 use crate::fault::StoreFault;
@@ -26,7 +29,7 @@ use std::alloc::Global;
 const DUE: u64 = 4096;
 
 impl<D: Disk> Store<D> {
-    ghost use Rattle.nqs_store.specs.Stores.{is_stopped, active_of, AsksNone};
+    ghost use Rattle.nqs_store.specs.Stores.{is_stopped, active_of, history_of, Tells, AsksNone};
 
     // Keeps a change in the active journal. Memory for all of it was taken before.
     fn keep_change(
@@ -43,6 +46,8 @@ impl<D: Disk> Store<D> {
         ensures stops { MayStop self.old self.new StoreFault.Disk result }
         ensures keeps { KeepsChange self.old self.new change.old change.new puts.now (content state.now) (recorded (active_of self.old)) result }
         ensures calls { Records self.old self.new change.old puts.now (content state.now) StoreFault.Disk result }
+        ensures spelled { IsTrue D.tells → Tells self.old (content state.now)
+            → OnOk result (SpellsBy (change_calls (active_of self.old)) (filled change.old puts.now) (history_of self.old) (history_of self.new)) }
         // No disk is read.
         ensures unread { AsksNone self.old self.new }
     {
@@ -80,6 +85,8 @@ impl<D: Disk> Store<D> {
         ensures stops { MayStop self.old self.new StoreFault.Disk result }
         ensures keeps { KeepsChange self.old self.new change.old change.new puts.now (content state.now) (recorded (ready (active_of self.old))) result }
         ensures calls { Commits self.old self.new change.old puts.now (content state.now) StoreFault.Disk result }
+        ensures spelled { IsTrue D.tells → Tells self.old (content state.now)
+            → OnOk result (Spells (active_of self.old) (filled change.old puts.now) (history_of self.old) (history_of self.new)) }
         // No disk is read.
         ensures unread { AsksNone self.old self.new }
     {
@@ -97,10 +104,11 @@ impl<D: Disk> Store<D> {
     }
 
     /// Keeps a change of the host, whose told state is given: makes a checkpoint, where one is due,
-    /// puts the bytes in order into the spool, sets the change's extents, and appends the record to
-    /// the active journal. It is all on the disks before the answer. Then the extents that the
-    /// change takes away are free. `Memory` comes before the first call of a disk and leaves all as
-    /// it was; after `Disk` the store is stopped. `Stopped` changes nothing.
+    /// puts the bytes in order into the spool, sets the change's extents, and appends the record,
+    /// which spells the change with them, to the active journal. It is all on the disks before the
+    /// answer. Then the extents that the change takes away are free. `Memory` comes before the
+    /// first call of a disk and leaves all as it was; after `Disk` the store is stopped. `Stopped`
+    /// changes nothing.
     pub fn commit(
         &mut self,
         alloc: Global,
@@ -116,6 +124,8 @@ impl<D: Disk> Store<D> {
         ensures stops { MayStop self.old self.new StoreFault.Disk result }
         ensures keeps { KeepsChange self.old self.new change.old change.new puts.now (content state.now) (recorded (ready (active_of self.old))) result }
         ensures calls { Commits self.old self.new change.old puts.now (content state.now) StoreFault.Disk result }
+        ensures spelled { IsTrue D.tells → Tells self.old (content state.now)
+            → OnOk result (Spells (active_of self.old) (filled change.old puts.now) (history_of self.old) (history_of self.new)) }
         // No disk is read.
         ensures unread { AsksNone self.old self.new }
     {

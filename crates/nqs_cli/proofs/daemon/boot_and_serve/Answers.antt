@@ -83,7 +83,7 @@ returns g c = λ me names disks loaded here.
             (histories_of g.D.Disk.history c.close.result)
             (λ t told. leaves new t (histories_of g.D.Disk.history c.close.result) yes told same)
             (λ done failed kept. kept_since named.0 (active_of node) _ (history_of node) (history_of new) (histories_of g.D.Disk.history c.close.result) s
-            (calls ++ done) failed same (booted.active yes named.0 named.1) (booted.made yes named.0 named.1).calls
+            (calls ++ done) failed same (booted.active yes named.0 named.1) (booted.spelled yes named.0 named.1)
             (booted.any_moment yes s there named.0 named.1) kept)
             same
             c.serve_with_notes-end.result c.args.turns (stops (here_of s) (idle u) run.0) run.1 run.2 moved.1,

@@ -28,6 +28,9 @@ returns-in-Err-Disk-clause-makes g c =
 pub returns-clause-makes : goal.returns-clause-makes
 returns-clause-makes g c = booted_makes c.args.store.now c.keep.new.store _ _ _ _ c.in-Ok-keep.ensures.makes
 
+pub returns-clause-spelled : goal.returns-clause-spelled
+returns-clause-spelled g c = c.in-Ok-keep.ensures.spelled
+
 pub returns-in-Err-clause-unread : goal.returns-in-Err-clause-unread
 returns-in-Err-clause-unread g c = λ yes which. refl
 

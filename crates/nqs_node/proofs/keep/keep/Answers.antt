@@ -88,5 +88,9 @@ returns-in-Ok-commit-clause-makes g c =
           same c.in-Ok-commit.ensures.calls;
     }
 
+pub returns-in-Ok-commit-clause-spelled : goal.returns-in-Ok-commit-clause-spelled
+returns-in-Ok-commit-clause-spelled g c = λ yes told.
+    c.in-Ok-commit.ensures.spelled yes (subst (Tells c.args.store.now) (sym c.make_room.ensures.content) told)
+
 pub returns-in-Err-clause-unread : goal.returns-in-Err-clause-unread
 returns-in-Err-clause-unread g c = λ yes which. refl

@@ -10,9 +10,9 @@ use Rattle.nqs_store.specs.Stores.{disk_of, history_of, fails_of, is_starved, ac
 use Rattle.nqs_back.specs.Bare.{emptied, blank}
 use Rattle.nqs_outside.specs.Causes.{Rose}
 use Rattle.nqs_store.specs.declared.fault.StoreFault.TheVariants.{Disk}
-use Rattle.nqs_node.specs.Carried.{Kept, after_kept, IsMade, IsCutBy, IsBlown}
+use Rattle.nqs_node.specs.Carried.{Kept, after_kept, IsMade, IsSpelled, IsCutBy, IsBlown}
 use Rattle.nqs_node.proofs.Performing.{still_broken_off, still_one, same_plain, none_kept, some_kept, made_since, broken_since, cut_since, moments_since}
-use Rattle.nqs_node.proofs.Performing.{read_failed}
+use Rattle.nqs_node.proofs.Performing.{read_failed, spelled_since}
 use Rattle.nqs_outside.proofs.Roses.{rose_since}
 use Rattle.nqs_base.proofs.Plain.{anyway}
 use Rattle.nqs_node.proofs.Places.{no_error, not_both}
@@ -163,6 +163,22 @@ returns-in-Some-clause-performs g c =
                 (same_plain old mid (spool.reads.same yes) host) (makes.calls.any_moment yes (spool.tells yes host told));
           };
     }
+
+pub returns-in-None-clause-spelled : goal.returns-in-None-clause-spelled
+returns-in-None-clause-spelled g c = λ yes told kept with.
+    subst (λ (k : Kept). IsSpelled (active_of c.args.store.now) (history_of c.args.store.now) (history_of c.read_all.new.store) k)
+    (none_kept c.args.change c.args.puts.now kept c.in-None.is with) (c.in-Ok.ensures.spool.reads.same yes)
+
+pub returns-in-Some-clause-spelled : goal.returns-in-Some-clause-spelled
+returns-in-Some-clause-spelled g c = λ yes told kept with.
+    let old = c.args.store.now in
+    let mid = c.read_all.new.store in
+    let spool = c.in-Ok.ensures.spool in
+    let change = c.in-Some.change in
+    on_ok_weaker c.keep.result (spelled_since (active_of old) (active_of mid) spool.stays.1 (fails_of old) (fails_of mid) (history_of old) (history_of mid)
+    (history_of c.keep.new.store) (spool.reads.fuse yes) (spool.reads.same yes) change c.args.puts.now kept
+    (some_kept c.args.change change c.args.puts.now kept c.in-Some.is with))
+    (c.keep.ensures.spelled yes (spool.tells yes (content c.args.state.now) told))
 
 pub returns-in-Some-clause-asks : goal.returns-in-Some-clause-asks
 returns-in-Some-clause-asks g c =

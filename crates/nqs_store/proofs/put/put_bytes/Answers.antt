@@ -39,5 +39,6 @@ returns g c =
         change = set;
         stands = stands;
         read = ap record_of (sym c.deref-2.ensures.value) ∙ c.read_back.ensures stands (c.deref-2.ensures.value ∙ whole ∙ is);
+        spelled = whole ∙ is;
       };
     }

@@ -14,7 +14,7 @@ use Rattle.nqs_store.specs.Disks.{disk_at, histories_of, failing_of}
 use Rattle.nqs_store.specs.Stores.{history_of, fails_of, active_of, bytes_of, plain_of}
 use Rattle.nqs_node.specs.Carried.{IsBrokenOff, IsCutBy, IsOneOrOther}
 use Rattle.nqs_outside.proofs.Roses.{rose_since}
-use Rattle.nqs_node.proofs.Performing.{made_since, broken_since, cut_since, moments_since}
+use Rattle.nqs_node.proofs.Performing.{made_since, spelled_since, broken_since, cut_since, moments_since}
 use Rattle.nqs_node.proofs.Booting.{boot_kept, told_when_loaded, loaded_is}
 use Rattle.nqs_node.proofs.node.Node.boot_loaded.Goals as goal
 
@@ -94,6 +94,11 @@ returns-in-Ok-clause-booted g c = λ disks loaded. record {
       (failing_of g.D.Disk.fails disks) (fails_of c.args.store) (histories_of g.D.Disk.history disks) (history_of c.args.store)
       (history_of c.begin.new.store)
       (loaded.reads.fuse yes) (loaded.reads.same yes) Boot [] (Some Boot) boot_kept (c.in-Ok.ensures.makes.calls.made yes);
+  spelled = λ yes a active.
+      spelled_since a (active_of c.args.store) (sym (c.one_journal_is_active.ensures _ a (active_of c.args.store) active (loaded.active yes)))
+      (failing_of g.D.Disk.fails disks) (fails_of c.args.store) (histories_of g.D.Disk.history disks) (history_of c.args.store)
+      (history_of c.begin.new.store)
+      (loaded.reads.fuse yes) (loaded.reads.same yes) Boot [] (Some Boot) boot_kept (c.in-Ok.ensures.spelled yes (loaded.tells yes));
   active = λ yes a active.
       c.in-Ok.ensures.makes.active ∙ ap (λ x. recorded (ready x))
       (sym (c.one_journal_is_active.ensures _ a (active_of c.args.store) active (loaded.active yes)));

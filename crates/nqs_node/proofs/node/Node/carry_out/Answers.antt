@@ -201,6 +201,12 @@ returns-clause-carries g c =
           };
     }
 
+pub returns-clause-spelled : goal.returns-clause-spelled
+returns-clause-spelled g c = λ yes s told kept with.
+    let parts = c.into_parts-change.ensures in
+    c.in-Ok-perform.ensures.spelled yes told.told kept
+    (kept_from _ _ _ _ kept (ap (λ p. p.0) parts) (c.as_slice.ensures ∙ ap (λ p. p.1) parts) with)
+
 -- how often the spool is asked
 
 pub returns-in-Err-clause-asks : goal.returns-in-Err-clause-asks

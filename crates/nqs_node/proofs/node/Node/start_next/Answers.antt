@@ -8,7 +8,7 @@ use Rattle.nqs_rules.specs.Stepped.{Stepped, map_stepped, shown, puts_of}
 use Rattle.nqs_store.specs.Puts.{IsShortPut}
 use Rattle.nqs_host_laws.specs.Offers.{takes_back_few}
 use Rattle.nqs_host_laws.specs.Reads.{AreLive}
-use Rattle.nqs_node.specs.Carried.{started, after_kept, IsMade}
+use Rattle.nqs_node.specs.Carried.{started, after_kept, IsMade, IsSpelled}
 use Rattle.nqs_node.specs.Nodes.{history_of, fails_of, active_of, content_of, bytes_of, Tells, AsksAtMost}
 use Rattle.nqs_node.specs.Reading.{AreShort, reads_for}
 use Rattle.nqs_back.proofs.Plans.{bare_step, alike_step, fewer_left, one_back}
@@ -132,6 +132,23 @@ returns-in-Ok-clause-takes g c =
           carries_true old _ _ _ (started now s) (carried.carries (started now s) (does_next old s told now
           (c.start_looks_at_no_bytes.ensures.start (bytes_of old) now host) plan next));
     }
+
+pub returns-in-Ok-None-clause-spelled : goal.returns-in-Ok-None-clause-spelled
+returns-in-Ok-None-clause-spelled g c = λ yes s told.
+    let old = c.args.self.now in
+    let host = content_of old in
+    let none = none_next c.args.now host (sym c.in-Ok-None.field-0-is ∙ c.in-Ok-None.ensures) in
+    let still = quiet_next old s told c.args.now (c.start_looks_at_no_bytes.ensures.start (bytes_of old) c.args.now host) none in
+    subst (λ (x : Stepped (List ℕ)). IsSpelled (active_of old) (history_of old) (history_of old) x.change) (sym still) (λ which. refl)
+
+pub returns-in-Ok-clause-spelled : goal.returns-in-Ok-clause-spelled
+returns-in-Ok-clause-spelled g c = λ yes s told.
+    let old = c.args.self.now in
+    let host = content_of old in
+    let plan = c.in-Ok-Some.plan in
+    let next = next_is c.args.now host plan (sym c.in-Ok-Some.field-0-is ∙ c.in-Ok-Some.ensures) in
+    let does = does_next old s told c.args.now (c.start_looks_at_no_bytes.ensures.start (bytes_of old) c.args.now host) plan next in
+    c.in-Ok.ensures.spelled yes s told (started c.args.now s).change does.kept
 
 pub invariant_of-self : goal.invariant_of-self
 invariant_of-self g c =

@@ -60,6 +60,14 @@ returns-in-Ok-clause-takes g c =
           (c.step_looks_at_no_bytes.ensures (bytes_of old) c.args.event.now host));
     }
 
+pub returns-in-Ok-clause-spelled : goal.returns-in-Ok-clause-spelled
+returns-in-Ok-clause-spelled g c = λ yes s told.
+    let old = c.args.self.now in
+    let e = c.args.event.now in
+    let does = done_here old s told (step e) (step e (content_of old)) c.in-Ok.plan c.in-Ok.ensures
+    (c.step_looks_at_no_bytes.ensures (bytes_of old) e (content_of old)) in
+    c.carry_out.ensures.spelled yes s told (step e s).change does.kept
+
 pub returns-in-Ok-clause-halts : goal.returns-in-Ok-clause-halts
 returns-in-Ok-clause-halts g c =
     IfOk-weaker c.carry_out.result (λ halts. halts ≡ c.in-Ok.plan.halts) (λ halts. halts ≡ (step c.args.event.now (bare c.args.self.now)).halts)

@@ -1,6 +1,7 @@
 use Rattle.std.proofs.Common.{◌∙◌, refl, ap}
 use Rattle.std.proofs.lemmas.Result.{err_from_is_err_and}
 use Rattle.nqs_state.specs.State.{content}
+use Rattle.nqs_rules.specs.Filled.{filled}
 use Rattle.nqs_store.specs.Active.{ready, recorded}
 use Rattle.nqs_store.specs.Stores.{history_of}
 use Rattle.nqs_store.specs.declared.fault.StoreFault.TheVariants.{Disk, Stopped}
@@ -8,7 +9,7 @@ use Rattle.nqs_store.proofs.Kept.{idle_commits, only_memory}
 use Rattle.nqs_store.proofs.Rooms.{same_histories}
 use Rattle.nqs_store.proofs.EachDisk.{each_disk}
 use Rattle.nqs_store.proofs.Asking.{none_same, none_after}
-use Rattle.nqs_store.proofs.Prepared.{tells_same, is_left, stops_from, keeps_from, commits_from}
+use Rattle.nqs_store.proofs.Prepared.{tells_same, is_left, stops_from, keeps_from, spelled_from, commits_from}
 use Rattle.nqs_store.proofs.store.Store.commit.Goals as goal
 
 pub returns-then-self-clause-calls : goal.returns-then-self-clause-calls
@@ -45,6 +46,19 @@ returns-clause-calls g c =
     let host = content c.args.state.now in
     commits_from o _ refl refl refl refl c.prepared.ensures.same Disk c.keep.result c.keep.new.self c.args.change.now c.args.puts.now host
     (tells_same o _ refl refl refl refl c.prepared.ensures.same host c.prepared.ensures.tells) c.keep.ensures.calls
+
+pub returns-in_err-text-clause-spelled : goal.returns-in_err-text-clause-spelled
+returns-in_err-text-clause-spelled g c = λ told tells.
+    let p = err_from_is_err_and c.from_residual.result c.from_residual.ensures.1 in
+    rw p.1 tt
+
+pub returns-clause-spelled : goal.returns-clause-spelled
+returns-clause-spelled g c =
+    let o = c.args.self.now in
+    let host = content c.args.state.now in
+    spelled_from o _ refl refl refl refl c.prepared.ensures.same Disk c.keep.result c.keep.new.self c.args.change.now c.args.puts.now host
+    (tells_same o _ refl refl refl refl c.prepared.ensures.same host c.prepared.ensures.tells) (filled c.args.change.now c.args.puts.now)
+    c.keep.ensures.spelled
 
 pub returns-in_err-text-clause-unread : goal.returns-in_err-text-clause-unread
 returns-in_err-text-clause-unread g c = none_same c.args.self.now _ (each_disk _ refl refl refl c.prepared.ensures.same)

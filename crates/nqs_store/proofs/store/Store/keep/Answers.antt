@@ -3,6 +3,8 @@ use Rattle.nqs_state.specs.State.{content}
 use Rattle.nqs_snapshot.specs.Spelling.{state_field}
 use Rattle.nqs_store.specs.Steps.{IsTextOf}
 use Rattle.nqs_store.specs.declared.fault.StoreFault.TheVariants.{Disk}
+use Rattle.nqs_rules.specs.Filled.{filled}
+use Rattle.nqs_store.proofs.Composed.{here_spelled, there_spelled}
 use Rattle.nqs_store.proofs.Kept.{idle_commits, turn_commits, here_commits, here_keeps, there_commits, there_keeps, stops_since}
 use Rattle.nqs_store.proofs.Asking.{none_then}
 use Rattle.nqs_store.proofs.store.Store.keep.Goals as goal
@@ -55,6 +57,22 @@ returns-clause-calls g c =
     there_commits c.args.self.now now.new.self c.args.change.now c.args.puts.now host Disk now.result c.turn_over.new.self c.deref.result.now (state_field host)
     (sym c.due.ensures ∙ c.if-not-due.false) (text_of g k) c.in-Ok.ensures.reads c.in-Ok-turn_over.ensures.turns c.turn_over.ensures.stops.fuse
     now.ensures.calls
+
+pub returns-then-not-due-clause-spelled : goal.returns-then-not-due-clause-spelled
+returns-then-not-due-clause-spelled g c = λ told tells.
+    here_spelled c.keep_change.result c.args.self.now c.keep_change.new.self (filled c.args.change.now c.args.puts.now)
+    (sym c.due.ensures ∙ c.if-not-due.true) (c.keep_change.ensures.spelled told tells)
+
+pub returns-clause-spelled : goal.returns-clause-spelled
+returns-clause-spelled g c =
+    let k = (goal.at.returns-clause-spelled g c).After-turn_over in
+    let host = content c.args.state.now in
+    let now = c.keep_change-in-Ok-turn_over in
+    let turns = c.in-Ok-turn_over.ensures.turns in
+    λ told tells.
+    there_spelled now.result c.args.self.now now.new.self (filled c.args.change.now c.args.puts.now) c.turn_over.new.self host (state_field host)
+    (sym c.due.ensures ∙ c.if-not-due.false) turns.active (turns.made told (state_field host) host (text_of g k))
+    (now.ensures.spelled told (turns.told told (state_field host) host (text_of g k) c.in-Ok.ensures.reads tells))
 
 pub returns-clause-unread : goal.returns-clause-unread
 returns-clause-unread g c =

@@ -18,7 +18,7 @@ use Rattle.nqs_store.specs.Stores.{Tells, plain_of, history_of}
 use Rattle.nqs_store.proofs.Filled.{shape_kept}
 use Rattle.nqs_store.proofs.Committed.{IsPut, plain_kept, told_after, spool_image, put_tells, filled_now, plain_now, records_now, account, spool_tells}
 use Rattle.nqs_store.proofs.Changed.{tells_later, spool_rest, spool_failed, journal_failed, all_done, cut_spool, cut_record, same_which, spool_at, record_at}
-use Rattle.nqs_store.proofs.Changed.{record_clear}
+use Rattle.nqs_store.proofs.Changed.{record_clear, all_spelled}
 use Rattle.nqs_store.proofs.EachDisk.{journal_kept}
 use Rattle.nqs_store.specs.declared.fault.StoreFault.TheVariants.{Disk}
 use Rattle.nqs_store.proofs.Kept.{stops_at, rose_at}
@@ -163,6 +163,16 @@ returns-in-Ok-append_to-clause-calls g c =
       broken_off = λ told. tt;
       cut = λ told tells which is. absurd (let no : ⊥ = cc in no);
     }
+
+pub returns-in-Ok-append_to-clause-spelled : goal.returns-in-Ok-append_to-clause-spelled
+returns-in-Ok-append_to-clause-spelled g c =
+    let k = (goal.at.returns-in-Ok-append_to-clause-spelled g c).After-append_to in
+    let o = c.args.self.now in
+    λ told tells.
+    all_spelled o _ c.args.puts.now (content c.args.state.now)
+    (applied (filled c.args.change.now c.args.puts.now) (plain_of o (content c.args.state.now))) told c.args.change.now c.put_bytes.new.change
+    c.deref.result.now c.put_bytes.new.spool (done_of g k) (put_of g k told) (many_of g k) refl c.append_to.ensures.rest
+    (ap g.D.Disk.history c.free_gone.ensures.same) c.in-Ok-append_to.ensures.appends.done tells
 
 pub returns-in-Err-clause-unread : goal.returns-in-Err-clause-unread
 returns-in-Err-clause-unread g c =
