@@ -54,10 +54,25 @@ def free_port():
         return bound.getsockname()[1]
 
 
+def key_port():
+    """A port that is free now, and that a site with a key may have, below 1024; None where this user
+    may have none."""
+    for port in range(607, 1024):
+        with socket.socket(socket.AF_INET, socket.SOCK_DGRAM) as bound:
+            try:
+                bound.bind(("127.0.0.1", port))
+            except OSError:
+                continue
+            return port
+    return None
+
+
 def site_of_one(folder, key=None):
     """Makes a folder the site of one host, alpha, at a free port, which it answers. The site is
-    open, or has this key of 32 bytes."""
-    port = free_port()
+    open, or has this key of 32 bytes, under which ports are below 1024."""
+    port = key_port() if key else free_port()
+    if port is None:
+        sys.exit("a site with a key has ports below 1024, and this user may have none")
     with open(os.path.join(folder, "site"), "w", encoding="ascii") as site:
         site.write(f"alpha 127.0.0.1 {port}\n")
     path = os.path.join(folder, "key")

@@ -20,6 +20,20 @@ sums_up() {
     [ "$failed" -eq 0 ]
 }
 
+# A port that is free now, and that a site with a key may have: one below 1024, from this number on.
+# Nothing where this user may have none.
+key_port() {
+    python3 -c '
+import socket, sys
+for port in range(int(sys.argv[1]), 1024):
+    try:
+        socket.socket(socket.AF_INET, socket.SOCK_DGRAM).bind(("127.0.0.1", port))
+    except OSError:
+        continue
+    print(port)
+    break' "$1"
+}
+
 # A port that is free now.
 free_port() {
     python3 -c 'import socket; s = socket.socket(socket.AF_INET, socket.SOCK_DGRAM); s.bind(("127.0.0.1", 0)); print(s.getsockname()[1])'

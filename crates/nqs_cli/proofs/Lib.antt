@@ -1,3 +1,4 @@
 pub mod Using
 pub mod Wanting
 pub mod Serving
+pub mod Callers

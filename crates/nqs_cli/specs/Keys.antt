@@ -1,8 +1,9 @@
 -- Whom a site hears: what the file of its key says, where it is kept well.
-use Rattle.std.specs.Prelude.{◌≡◌, true, false, ⊤}
+use Rattle.std.specs.Prelude.{◌≡◌, ◌<◌, true, false, ⊤, List, All}
 use Rattle.std.specs.declared.result.Result.{Result}
 use Rattle.std.specs.declared.result.Result.TheVariants.{Ok, Err}
 use Rattle.nqs_real.specs.declared.key.KeyFile.{KeyFile}
+use Rattle.nqs_real.specs.declared.site.SiteHost.{SiteHost}
 use Rattle.nqs_seal.specs.Keys.{IsKeyFile}
 use Rattle.nqs_seal.specs.declared.sealed.Key.{Key}
 use Rattle.nqs_seal.specs.declared.site.SiteKey.{SiteKey}
@@ -25,3 +26,8 @@ Hears file (Ok key) = IsKeyFile file.bytes.items key × IsKept file key
 Hears file (Err NoForm) = (key : SiteKey) → IsKeyFile file.bytes.items key → ⊥
 Hears file (Err Shared) = HasKey file × (file.is_private ≡ false)
 Hears file (Err Foreign) = HasKey file × (file.is_private ≡ true) × (file.is_own ≡ false)
+
+-- under a key no host has a port that any user of its machine can have while its daemon is down
+abbrev pub HasOwnPorts : List SiteHost → SiteKey → Type 0
+HasOwnPorts site Open = ⊤
+HasOwnPorts site (Sealed key) = All (λ host. host.port < 1024) site

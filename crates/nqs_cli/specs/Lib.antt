@@ -1,3 +1,4 @@
+pub mod Callers
 pub mod Forms
 pub mod Parts
 pub mod Formats

@@ -1,32 +1,37 @@
-//! The program, but for its `main`.
+//! The programs `nqs` and `nqs_ask`, but for their `main`.
 
+ghost use Rattle.std.specs.Prelude.{◌≢◌, None, IfOk, string_bytes};
+ghost use Rattle.nqs_words.specs.Values.{name_of};
+
+use crate::caller::run_as;
 use crate::dispatch::run;
 use crate::real::RealMachine;
-use crate::told::tell_forms;
+use crate::told::{CALLER_FORMS, FORMS, tell_forms, tell_no_name};
 use nqs_base::Memory;
 use nqs_clients::NqsStatus;
-use nqs_real::{Reading, Writing, fill_streams};
+use nqs_real::{Reading, Writing, caller_name, fill_streams, tell_part};
+use nqs_words::name_of;
 use std::process::ExitCode;
 use std::rt::HostRuntime;
 use std::{env, io};
 
 // Words that can't be had are in no form, but where memory was wanting.
-fn status_of_error(rt: &HostRuntime, e: &io::Error) -> NqsStatus {
+fn status_of_error(rt: &HostRuntime, forms: &str, e: &io::Error) -> NqsStatus {
     match Memory::of_error(e) {
         Some(memory) => NqsStatus::Memory(memory),
         None => {
-            tell_forms(rt);
+            tell_forms(rt, forms);
             NqsStatus::BadWords
         }
     }
 }
 
 // The words of the command line, or the status where they can't be had.
-fn words_of(rt: &HostRuntime) -> Result<Vec<String>, NqsStatus> {
+fn words_of(rt: &HostRuntime, forms: &str) -> Result<Vec<String>, NqsStatus> {
     let mut words = Vec::new(rt.alloc());
     let given = match env::args(rt) {
         Ok(given) => given,
-        Err(e) => return Err(status_of_error(rt, &e)),
+        Err(e) => return Err(status_of_error(rt, forms, &e)),
     };
     for word in given.skip(1) {
         if let Err(refused) = words.push(word) {
@@ -40,11 +45,11 @@ fn status_of(rt: &HostRuntime) -> NqsStatus {
     if fill_streams(rt).is_err() {
         return NqsStatus::MachineFault;
     }
-    let words = match words_of(rt) {
+    let words = match words_of(rt, FORMS) {
         Ok(words) => words,
         Err(status) => return status,
     };
-    let mut machine = RealMachine::new(*rt);
+    let mut machine = RealMachine::new(*rt, FORMS);
     let mut input = Reading::new(rt.reader());
     let mut output = Writing::new(io::writer(rt));
     run(rt.alloc(), &words, &mut machine, &mut input, &mut output)
@@ -54,4 +59,61 @@ fn status_of(rt: &HostRuntime) -> NqsStatus {
 /// The code is the status's number.
 pub fn program(rt: &HostRuntime) -> ExitCode {
     ExitCode::from(status_of(rt).number())
+}
+
+// A name that can't be had: want of memory has its status.
+fn status_of_nameless(rt: &HostRuntime, e: &io::Error) -> NqsStatus {
+    match Memory::of_error(e) {
+        Some(memory) => NqsStatus::Memory(memory),
+        None => {
+            tell_part(rt, "the caller's account", e);
+            NqsStatus::MachineFault
+        }
+    }
+}
+
+// The name of who started this process, which is one of NQS, or the status where he has none.
+fn caller_of(rt: &HostRuntime) -> Result<String, NqsStatus>
+    ensures { IfOk result (λ name. name_of (string_bytes name) ≢ None) }
+{
+    match caller_name(rt) {
+        Ok(Some(name)) if name_of(name.as_bytes()).is_some() => Ok(name),
+        Ok(name) => {
+            let _ = tell_no_name(rt, name.as_deref());
+            Err(NqsStatus::MachineFault)
+        }
+        Err(e) => Err(status_of_nameless(rt, &e)),
+    }
+}
+
+// The caller's name is had before anything of the site is read.
+fn status_of_caller(rt: &HostRuntime) -> NqsStatus {
+    if fill_streams(rt).is_err() {
+        return NqsStatus::MachineFault;
+    }
+    let words = match words_of(rt, CALLER_FORMS) {
+        Ok(words) => words,
+        Err(status) => return status,
+    };
+    let name = match caller_of(rt) {
+        Ok(name) => name,
+        Err(status) => return status,
+    };
+    let mut machine = RealMachine::new(*rt, CALLER_FORMS);
+    let mut input = Reading::new(rt.reader());
+    let mut output = Writing::new(io::writer(rt));
+    run_as(
+        rt.alloc(),
+        &name,
+        &words,
+        &mut machine,
+        &mut input,
+        &mut output,
+    )
+}
+
+/// Asks a host's daemon what the words of the command line ask for, in the name of who started this
+/// process, as the system has it. The code is the status's number.
+pub fn ask_program(rt: &HostRuntime) -> ExitCode {
+    ExitCode::from(status_of_caller(rt).number())
 }

@@ -1,9 +1,13 @@
 //! Whom a site hears: what the file of its key says, where it is kept well.
 
+ghost use Rattle.std.specs.Prelude.{◌≤◌, ◌<◌, All, MatchOption};
 ghost use Rattle.nqs_cli.specs.Keys.{Hears};
 
-use nqs_real::KeyFile;
+use nqs_real::{KeyFile, SiteHost};
 use nqs_seal::{SiteKey, read_key};
+
+/// The first port that any user of a machine can have.
+const OPEN_PORT: u16 = 1024;
 
 /// Why the file of a site's key says nobody.
 #[derive(Debug, PartialEq, Eq, Drop)]
@@ -27,4 +31,11 @@ pub(crate) fn heard_by(file: &KeyFile) -> Result<SiteKey, KeyFault>
         Some(SiteKey::Sealed(_)) if !file.is_own => Err(KeyFault::Foreign),
         Some(SiteKey::Sealed(key)) => Ok(SiteKey::Sealed(key)),
     }
+}
+
+/// The first host whose port any user of its machine can have while its daemon is down.
+pub(crate) fn open_host(site: &[SiteHost]) -> Option<&SiteHost>
+    ensures { MatchOption result (All (λ host. host.port < 1024) site.now) (λ host. 1024 ≤ host.now.port) }
+{
+    site.iter().find(|host| host.port >= OPEN_PORT)
 }

@@ -1,10 +1,12 @@
 //! The program `nqs`: its words, the machine that lends it the outside, and what it does with it.
 //!
 //! `run` picks by the words what is done: a host is formatted, or serves; a client asks; a shepherd
-//! tends a job. All that the machine lent goes back to it, whatever the status.
+//! tends a job. All that the machine lent goes back to it, whatever the status. `run_as` does it
+//! for the caller of the program `nqs_ask`: a client asks, in his name.
 #![tactic(auto)]
 
 mod asking;
+mod caller;
 mod daemon;
 mod dispatch;
 mod entry;
@@ -19,8 +21,9 @@ mod station;
 mod told;
 mod wire;
 
+pub use caller::{callers_ask_as_themselves, run_as};
 pub use dispatch::run;
-pub use entry::program;
+pub use entry::{ask_program, program};
 pub use form::{Form, Order, read_order};
 pub use machine::{Machine, MachineEnd, Notices};
 pub use notes::RealNotes;

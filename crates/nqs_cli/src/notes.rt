@@ -1,13 +1,14 @@
 //! What a daemon of the real machine notes on standard error while it serves: which datagrams it
-//! passed over, and which ends of jobs came.
+//! passed over, where the last of them came from, and which ends of jobs came.
 
 use crate::told::name_text;
 use nqs_base::Name;
 use nqs_outside::Clock;
-use nqs_real::{SystemClock, tell};
+use nqs_real::{LastSender, SystemClock, tell};
 use nqs_serve::{IgnoreCause, Notes};
 use nqs_types::{HostId, RequestId};
 use std::io;
+use std::net::SocketAddr;
 use std::rt::HostRuntime;
 
 /// For each cause there is at most one line in so many seconds.
@@ -43,6 +44,7 @@ pub struct RealNotes {
     // The names of the site's hosts, where there was memory for them.
     names: Option<Vec<Name>>,
     clock: SystemClock,
+    sender: LastSender,
     tallies: Tallies,
 }
 
@@ -92,13 +94,26 @@ fn cause_text(cause: &IgnoreCause) -> &'static str {
     }
 }
 
-fn tell_ignored(rt: &HostRuntime, cause: &IgnoreCause, count: u64) -> io::Result<()> {
-    let what = cause_text(cause);
-    tell(
-        rt,
-        &format!(in rt.alloc(); "datagrams passed over: {count}, the last one is {what}")?,
-    );
-    Ok(())
+// The place from where the last one came is that of its envelope, where it is known.
+fn ignored_text(
+    rt: &HostRuntime,
+    what: &str,
+    count: u64,
+    from: Option<SocketAddr>,
+) -> io::Result<String> {
+    let alloc = rt.alloc();
+    match from {
+        Some(from) => Ok(format!(in alloc;
+            "datagrams passed over: {count}, the last one, from {from}, is {what}"
+        )?),
+        None => Ok(format!(in alloc; "datagrams passed over: {count}, the last one is {what}")?),
+    }
+}
+
+fn tell_ignored(rt: &HostRuntime, what: &str, count: u64, from: Option<SocketAddr>) {
+    if let Ok(text) = ignored_text(rt, what, count, from) {
+        tell(rt, &text);
+    }
 }
 
 fn host_text(names: Option<&Vec<Name>>, host: HostId) -> &str {
@@ -126,12 +141,14 @@ fn tell_ended(
 }
 
 impl RealNotes {
-    /// The notes of a daemon of a site whose hosts have these names. Nothing is noted yet.
-    pub(crate) fn new(rt: HostRuntime, names: &[Name]) -> RealNotes {
+    /// The notes of a daemon of a site whose hosts have these names, and whose wire notes there
+    /// from where its last datagram came. Nothing is noted yet.
+    pub(crate) fn new(rt: HostRuntime, names: &[Name], sender: LastSender) -> RealNotes {
         RealNotes {
             rt,
             names: Vec::from_slice(rt.alloc(), names).ok(),
             clock: SystemClock::new(rt),
+            sender,
             tallies: Tallies {
                 too_long: NONE,
                 unread: NONE,
@@ -147,7 +164,7 @@ impl Notes for RealNotes {
     fn ignored(&mut self, cause: &IgnoreCause) {
         let now = self.clock.now();
         if let Some(count) = self.tallies.of_cause(cause).count_one(now) {
-            let _ = tell_ignored(&self.rt, cause, count);
+            tell_ignored(&self.rt, cause_text(cause), count, self.sender.place());
         }
     }
 

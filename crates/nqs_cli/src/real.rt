@@ -7,23 +7,24 @@
 ghost use Rattle.std.specs.Prelude.{◌≡◌, ◌≤◌, [], None, Ok, length, IfOk, IsErrOf};
 ghost use Rattle.nqs_outside.specs.Causes.{Rose};
 ghost use Rattle.nqs_seal.specs.Wires.{IsUnder};
-ghost use Rattle.nqs_cli.specs.Keys.{Hears};
+ghost use Rattle.nqs_cli.specs.Keys.{Hears, HasOwnPorts};
 
-use crate::key::heard_by;
+use crate::key::{heard_by, open_host};
 use crate::machine::{Machine, MachineEnd, Notices};
 use crate::notes::RealNotes;
 use crate::parts::{Around, DaemonParts, ShepherdParts};
 use crate::told::{
-    tell_broken, tell_end, tell_fault, tell_forms, tell_host, tell_key, tell_key_fault,
-    tell_launcher, tell_line, tell_lock, tell_missing, tell_no_file, tell_no_key, tell_others,
-    tell_port, tell_site, tell_start, tell_unbooted, tell_used,
+    tell_broken, tell_end, tell_fault, tell_forms, tell_high_port, tell_host, tell_key,
+    tell_key_fault, tell_launcher, tell_line, tell_lock, tell_missing, tell_no_file, tell_no_key,
+    tell_not_roots, tell_others, tell_port, tell_site, tell_start, tell_unbooted, tell_used,
 };
 use crate::wire::RealWire;
 use nqs_base::{Memory, Name, NameList};
 use nqs_real::{
-    FileDisk, FileOutlet, FilePrinter, HostLock, KeyFile, KeyStop, ShellRunner, ShepherdLauncher,
-    SiteFault, SiteHost, SystemClock, UdpWire, host_folder, key_file, make_host_folder,
-    missing_disk, names_of, open_disks, own_program, read_site, tell_part,
+    FileDisk, FileOutlet, FilePrinter, HostLock, KeyFile, KeyStop, LastSender, RunsAs, ShellRunner,
+    ShepherdLauncher, SiteFault, SiteHost, SystemClock, UdpWire, host_folder, is_roots_alone,
+    key_file, make_host_folder, missing_disk, names_of, open_disks, own_program, read_site,
+    runs_as, tell_part,
 };
 use nqs_seal::SiteKey;
 use nqs_serve::ServeEnd;
@@ -46,9 +47,13 @@ const LONGEST_SITE: u64 = 4096;
 #[derive(Drop)]
 pub struct RealMachine {
     rt: HostRuntime,
+    // The forms that the words of its program may have.
+    forms: &'static str,
     lock: Option<HostLock>,
     // The folder of the disks that were lent last.
     folder: String,
+    // From where the daemon's last datagram came.
+    sender: LastSender,
     faults: u64,
 }
 
@@ -153,6 +158,41 @@ fn key_at(rt: &HostRuntime, dir: &str) -> Result<SiteKey, PartFault> {
     }
 }
 
+// Whom the hosts of a site hear. Under a key no port of the site is one that any user of a machine
+// can have while its daemon is down, hear what is asked, and ask it again.
+fn key_of(rt: &HostRuntime, dir: &str, site: &[SiteHost]) -> Result<SiteKey, PartFault>
+    ensures { IfOk result (HasOwnPorts site.now) }
+{
+    let key = key_at(rt, dir)?;
+    if matches!(key, SiteKey::Sealed(_)) {
+        if let Some(host) = open_host(site) {
+            let _ = tell_high_port(rt, dir, host);
+            return Err(PartFault::Call);
+        }
+    }
+    Ok(key)
+}
+
+// As whom jobs run. Where everyone is heard it is the daemon's user.
+fn runs_under(rt: &HostRuntime, key: &SiteKey) -> Result<RunsAs, PartFault>
+    ensures { key.now ≡ SiteKey.Open → IfOk result (λ found. found ≡ RunsAs.Daemon) }
+{
+    let is_sealed = matches!(key, SiteKey::Sealed(_));
+    had(rt, "this process's user", runs_as(rt, is_sealed))
+}
+
+// Where jobs run as their owners, none but root changes what stands in the folder of a host.
+fn guarded(rt: &HostRuntime, folder: &str, runs_as: RunsAs) -> Result<(), PartFault> {
+    if runs_as == RunsAs::Daemon {
+        return Ok(());
+    }
+    if had(rt, "the host's folder", is_roots_alone(rt, folder))? {
+        return Ok(());
+    }
+    let _ = tell_not_roots(rt, folder);
+    Err(PartFault::Call)
+}
+
 // The wire over a socket that the file of the site's key asks for.
 fn wire_under(rt: &HostRuntime, socket: UdpWire, key: SiteKey) -> Result<RealWire, PartFault>
     ensures { IfOk result (λ wire. IsUnder key socket wire.inside) }
@@ -202,12 +242,14 @@ fn had<T: Drop>(rt: &HostRuntime, what: &str, made: io::Result<T>) -> Result<T, 
 }
 
 impl RealMachine {
-    /// A machine that has lent nothing.
-    pub fn new(rt: HostRuntime) -> RealMachine {
+    /// A machine that has lent nothing, of a program whose words may have these forms.
+    pub fn new(rt: HostRuntime, forms: &'static str) -> RealMachine {
         RealMachine {
             rt,
+            forms,
             lock: None,
             folder: String::new(rt.alloc()),
+            sender: LastSender::unnoted(),
             faults: 0,
         }
     }
@@ -285,7 +327,7 @@ impl RealMachine {
 
     // The socket of a host's daemon.
     fn own_socket(&self, site: &[SiteHost], host: HostId) -> Result<UdpWire, PartFault> {
-        match UdpWire::of_daemon(self.rt, site, host, WAIT) {
+        match UdpWire::of_daemon(self.rt, site, host, WAIT, self.sender.shared()) {
             Ok(socket) => Ok(socket),
             Err(e) => {
                 let _ = tell_port(&self.rt, site, host, &e);
@@ -306,7 +348,7 @@ impl RealMachine {
 
     fn client_wire(&self, dir: &str) -> Result<(RealWire, u16), PartFault> {
         let site = site_at(&self.rt, dir)?;
-        let key = key_at(&self.rt, dir)?;
+        let key = key_of(&self.rt, dir, &site)?;
         self.free_wire(&site, key)
     }
 
@@ -315,9 +357,10 @@ impl RealMachine {
         dir: &str,
         site: &[SiteHost],
         host: HostId,
+        runs_as: RunsAs,
     ) -> Result<ShepherdLauncher, PartFault> {
         let program = had(&self.rt, "the program's own path", own_program(&self.rt))?;
-        match ShepherdLauncher::open(self.rt, &program, dir, site, host) {
+        match ShepherdLauncher::open(self.rt, &program, dir, site, host, runs_as) {
             Ok(launcher) => Ok(launcher),
             Err(e) => {
                 tell_launcher(&self.rt, &e);
@@ -334,11 +377,11 @@ impl RealMachine {
         )
     }
 
-    fn own_outlet(&self) -> Result<FileOutlet, PartFault> {
+    fn own_outlet(&self, runs_as: RunsAs) -> Result<FileOutlet, PartFault> {
         had(
             &self.rt,
             "the folder output",
-            FileOutlet::open(self.rt, &self.folder),
+            FileOutlet::open(self.rt, &self.folder, runs_as),
         )
     }
 
@@ -349,12 +392,13 @@ impl RealMachine {
         site: &[SiteHost],
         key: SiteKey,
         host: HostId,
+        runs_as: RunsAs,
     ) -> Result<RealAround, PartFault> {
         let socket = self.own_socket(site, host)?;
         let wire = wire_under(&self.rt, socket, key)?;
-        let launcher = self.own_launcher(dir, site, host)?;
+        let launcher = self.own_launcher(dir, site, host, runs_as)?;
         let printer = self.own_printer(site)?;
-        let outlet = self.own_outlet()?;
+        let outlet = self.own_outlet(runs_as)?;
         Ok(Around {
             wire,
             launcher,
@@ -364,25 +408,44 @@ impl RealMachine {
         })
     }
 
+    // As whom the jobs of a host run, in whose folder no file is opened yet. It is made where it
+    // isn't there, in a folder that has been looked at.
+    fn guard(
+        &self,
+        dir: &str,
+        site: &[SiteHost],
+        key: &SiteKey,
+        host: HostId,
+    ) -> Result<RunsAs, PartFault> {
+        let runs_as = runs_under(&self.rt, key)?;
+        guarded(&self.rt, dir, runs_as)?;
+        let folder = made_folder(&self.rt, dir, site, host)?;
+        guarded(&self.rt, &folder, runs_as)?;
+        Ok(runs_as)
+    }
+
     // The parts of a daemon in a folder that is locked from now on.
     fn locked_parts(&mut self, dir: &str, host: HostId) -> Result<RealParts, PartFault>
         ensures { self.new.faults ≡ self.old.faults }
     {
         let site = site_at(&self.rt, dir)?;
-        let key = key_at(&self.rt, dir)?;
+        let key = key_of(&self.rt, dir, &site)?;
+        let runs_as = self.guard(dir, &site, &key, host)?;
         self.lock_folder(dir, &site, host)?;
+        self.sender = LastSender::new(self.rt.alloc());
         let disks = self.opened()?;
-        let around = self.around(dir, &site, key, host)?;
+        let around = self.around(dir, &site, key, host, runs_as)?;
         Ok(DaemonParts { disks, around })
     }
 
     fn shepherd_of(&self, dir: &str, host: HostId) -> Result<RealShepherd, PartFault> {
         let site = site_at(&self.rt, dir)?;
-        let key = key_at(&self.rt, dir)?;
+        let key = key_of(&self.rt, dir, &site)?;
+        let runs_as = runs_under(&self.rt, &key)?;
         let runner = had(
             &self.rt,
             "the folder work",
-            ShellRunner::open(self.rt, dir, &site, host),
+            ShellRunner::open(self.rt, dir, &site, host, runs_as),
         )?;
         let (wire, port) = self.free_wire(&site, key)?;
         Ok(ShepherdParts { runner, wire, port })
@@ -393,7 +456,7 @@ impl Notices for RealMachine {
     type N = RealNotes;
 
     fn not_in_form(&self) {
-        tell_forms(&self.rt);
+        tell_forms(&self.rt, self.forms);
     }
 
     fn no_such_host(&self, dir: &str, name: &str) {
@@ -425,7 +488,7 @@ impl Notices for RealMachine {
     }
 
     fn notes(&self, names: &[Name]) -> RealNotes {
-        RealNotes::new(self.rt, names)
+        RealNotes::new(self.rt, names, self.sender.shared())
     }
 
     fn served(&self, state: &HostState, end: &ServeEnd) {

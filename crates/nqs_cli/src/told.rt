@@ -98,17 +98,31 @@ pub(crate) fn tell_used(rt: &HostRuntime, folder: &str) -> io::Result<()> {
     Ok(())
 }
 
-// The forms that the words may have.
-const FORMS: &str = "usage: nqs format DIR HOST
+/// The forms that the words of `nqs` may have.
+pub(crate) const FORMS: &str = "usage: nqs format DIR HOST
        nqs daemon DIR HOST TURNS
        nqs qsub|qstat|qdel|qmgr DIR HOST USER [WORD]..
        nqs tick DIR HOST USER
        nqs shepherd DIR HOST SEQ.HOST START
 All WORDs together have at most 4,000 bytes, where each counts 4 more.";
 
+/// The forms that the words of `nqs_ask` may have.
+pub(crate) const CALLER_FORMS: &str = "usage: nqs_ask qsub|qstat|qdel|qmgr DIR HOST [WORD]..
+All WORDs together have at most 4,000 bytes, where each counts 4 more.";
+
 /// Says which forms the words may have.
-pub(crate) fn tell_forms(rt: &HostRuntime) {
-    let _ = rt.eprintln(FORMS);
+pub(crate) fn tell_forms(rt: &HostRuntime, forms: &str) {
+    let _ = rt.eprintln(forms);
+}
+
+/// Says that the caller has no name under which a host knows users.
+pub(crate) fn tell_no_name(rt: &HostRuntime, name: Option<&str>) -> io::Result<()> {
+    let who = name.unwrap_or("whose number the system has no account for");
+    let text = format!(in rt.alloc();
+        "the user {who} has no name of NQS: 1 to 15 letters, digits, _ and -, a letter first"
+    )?;
+    tell(rt, &text);
+    Ok(())
 }
 
 /// Says that a site has no host of this name.
@@ -226,6 +240,27 @@ pub(crate) fn tell_port(
         let what = format!(in rt.alloc(); "port {} of {}", own.port, own.address)?;
         tell_part(rt, &what, cause);
     }
+    Ok(())
+}
+
+/// Says that a host's port is one that any user of its machine can have, which no site with a key
+/// has.
+pub(crate) fn tell_high_port(rt: &HostRuntime, dir: &str, host: &SiteHost) -> io::Result<()> {
+    let name = name_text(Some(&host.name));
+    let text = format!(in rt.alloc();
+        "{dir}/site: port {} of {name} is above 1023, so any user can have it: under a key it has to be below, NQS's own is 607",
+        host.port
+    )?;
+    tell(rt, &text);
+    Ok(())
+}
+
+/// Says that others than root can change what stands in a host's folder.
+pub(crate) fn tell_not_roots(rt: &HostRuntime, folder: &str) -> io::Result<()> {
+    let text = format!(in rt.alloc();
+        "{folder}, or a folder on the way to it, isn't root's alone to write: under a key root's daemon serves no other"
+    )?;
+    tell(rt, &text);
     Ok(())
 }
 

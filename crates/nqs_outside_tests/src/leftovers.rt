@@ -1,7 +1,7 @@
 //! What is left of jobs, over processes of the real system: who is ended, and who is left alone.
 
 use crate::real::{HOST, fresh_folder, site_of_alpha};
-use nqs_real::{Mark, ShepherdLauncher, SiteHost, end_job, is_marked};
+use nqs_real::{Mark, RunsAs, ShepherdLauncher, SiteHost, end_job, is_marked};
 use std::alloc::AllocError;
 use std::os::unix::process::ExitStatusExt;
 use std::process::{Child, Command};
@@ -108,7 +108,7 @@ fn end_some(
 ) -> io::Result<[bool; 2]> {
     end_job(rt, &format!(in rt.alloc(); "{jobs}/1.alpha.1")?)?;
     let first = have_fates(rt, sleepers, b"klllll")?;
-    drop(ShepherdLauncher::open(*rt, "/bin/true", dir, site, HOST)?);
+    drop(ShepherdLauncher::open(*rt, "/bin/true", dir, site, HOST, RunsAs::Daemon)?);
     Ok([first, have_fates(rt, sleepers, b"kkllll")?])
 }
 

@@ -7,9 +7,9 @@ use nqs_outside::{
     Address, Clock, Disk, Failed, Launcher, Outlet, Printer, Received, RunEnd, Runner, Wire,
 };
 use nqs_real::{
-    FileDisk, FileOutlet, FilePrinter, HostLock, ShellRunner, ShepherdLauncher, SiteFault,
-    SiteHost, SystemClock, UdpWire, fill_streams, lock_holder, lost_name, make_host_folder,
-    missing_disk, names_differ, names_of, open_disks, own_program, read_site,
+    FileDisk, FileOutlet, FilePrinter, HostLock, LastSender, RunsAs, ShellRunner, ShepherdLauncher,
+    SiteFault, SiteHost, SystemClock, UdpWire, fill_streams, lock_holder, lost_name,
+    make_host_folder, missing_disk, names_differ, names_of, open_disks, own_program, read_site,
 };
 use nqs_types::{HostId, LaunchOrder, Limits, RequestId, Which};
 use std::os::unix::fs::PermissionsExt;
@@ -134,7 +134,7 @@ fn order_of(seq: u32, cpu: Option<u64>, memory: Option<u64>) -> Result<LaunchOrd
 }
 
 fn put_outputs(rt: &HostRuntime, folder: &str) -> io::Result<[bool; 8]> {
-    let mut outlet = FileOutlet::open(*rt, folder)?;
+    let mut outlet = FileOutlet::open(*rt, folder, RunsAs::Daemon)?;
     // What a stop left of a file that was being written.
     let new = format!(in rt.alloc(); "{folder}/output.new")?;
     fs::write(rt, &new, b"the front of a longer text".as_slice())?;
@@ -281,13 +281,13 @@ static MODES: [(&str, u32); 9] = [
 fn make_disks(rt: &HostRuntime, folder: &str) -> io::Result<()> {
     drop(HostLock::take(rt, folder)?);
     drop(open_disks(rt, folder)?);
-    let mut outlet = FileOutlet::open(*rt, folder)?;
+    let mut outlet = FileOutlet::open(*rt, folder, RunsAs::Daemon)?;
     let _ = outlet.write_file(b"a/b", b"");
     Ok(())
 }
 
 fn make_job(rt: &HostRuntime, dir: &str, site: &[SiteHost], order: &LaunchOrder) -> io::Result<()> {
-    let mut launcher = ShepherdLauncher::open(*rt, "/bin/false", dir, site, HOST)?;
+    let mut launcher = ShepherdLauncher::open(*rt, "/bin/false", dir, site, HOST, RunsAs::Daemon)?;
     let _ = launcher.launch(order, b"");
     Ok(())
 }
@@ -359,7 +359,7 @@ fn gets_quiet(wire: &mut UdpWire, buf: &mut [u8]) -> bool
 
 fn talk(rt: &HostRuntime) -> Result<([bool; 8], bool), Fail> {
     let site = site_of_alpha(rt)?;
-    let mut daemon = UdpWire::of_daemon(*rt, &site, HOST, 200)?;
+    let mut daemon = UdpWire::of_daemon(*rt, &site, HOST, 200, LastSender::unnoted())?;
     let (mut client, port) = UdpWire::of_client(*rt, &site, 200)?;
     let mut buf = vec![in rt.alloc(); 0u8; 49_153]?;
     let asked = ask(&mut client, port, &mut daemon, &mut buf);
@@ -454,7 +454,7 @@ fn run_job(
     site: &[SiteHost],
     order: &LaunchOrder,
 ) -> io::Result<Result<RunEnd, Failed>> {
-    let mut runner = ShellRunner::open(*rt, dir, site, HOST)?;
+    let mut runner = ShellRunner::open(*rt, dir, site, HOST, RunsAs::Daemon)?;
     Ok(runner.run(order.id, order.start))
 }
 
@@ -467,7 +467,7 @@ fn ends_so(end: Result<RunEnd, Failed>, script: &Script) -> bool {
 
 // How many scripts end as they are to, before the first that doesn't.
 fn run_scripts(rt: &HostRuntime, dir: &str, site: &[SiteHost]) -> Result<u32, Fail> {
-    let mut launcher = ShepherdLauncher::open(*rt, "/bin/false", dir, site, HOST)?;
+    let mut launcher = ShepherdLauncher::open(*rt, "/bin/false", dir, site, HOST, RunsAs::Daemon)?;
     let mut ended = 0u32;
     for script in &SCRIPTS {
         let seq = ended.saturating_add(1);

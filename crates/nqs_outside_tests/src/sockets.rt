@@ -1,8 +1,10 @@
-//! The socket as a wire: whom a client hears, and what it does where nobody is.
+//! The socket as a wire: whom a client hears, what it does where nobody is, and what a daemon's
+//! notes of who sent.
 
 use crate::real::{HOST, site_of_alpha};
 use nqs_outside::{Address, Received, Wire};
-use nqs_real::UdpWire;
+use nqs_real::{LastSender, UdpWire};
+use std::net::{Ipv4Addr, SocketAddr, SocketAddrV4};
 use std::rt::HostRuntime;
 use std::test::Fail;
 use std::time::{Duration, Instant};
@@ -10,7 +12,7 @@ use std::time::{Duration, Instant};
 // A stranger's answers come before and behind that of the daemon.
 fn beside_a_stranger(rt: &HostRuntime) -> Result<[bool; 7], Fail> {
     let site = site_of_alpha(rt)?;
-    let mut daemon = UdpWire::of_daemon(*rt, &site, HOST, 200)?;
+    let mut daemon = UdpWire::of_daemon(*rt, &site, HOST, 200, LastSender::unnoted())?;
     let (mut client, port) = UdpWire::of_client(*rt, &site, 200)?;
     let (mut stranger, _) = UdpWire::of_client(*rt, &site, 200)?;
     let mut buf = vec![in rt.alloc(); 0u8; 49_185]?;
@@ -47,7 +49,7 @@ fn before_its_daemon(rt: &HostRuntime) -> Result<[bool; 6], Fail> {
     let first = client.send(Address::Host(HOST), b"to nobody") == Ok(());
     let waits_first = waits(rt, &mut client)?;
     let second = client.send(Address::Host(HOST), b"to nobody") == Ok(());
-    let mut daemon = UdpWire::of_daemon(*rt, &site, HOST, 200)?;
+    let mut daemon = UdpWire::of_daemon(*rt, &site, HOST, 200, LastSender::unnoted())?;
     let third = client.send(Address::Host(HOST), b"ask") == Ok(());
     let mut buf = vec![in rt.alloc(); 0u8; 49_185]?;
     let comes = daemon.receive(&mut buf) == Ok(Received::Datagram(3)) && buf.starts_with(b"ask");
@@ -64,5 +66,27 @@ fn before_its_daemon(rt: &HostRuntime) -> Result<[bool; 6], Fail> {
 #[test]
 fn nobody_is_no_fault(rt: HostRuntime) -> Result<(), Fail> {
     assert_eq!(rt; before_its_daemon(&rt)?, [true; 6]);
+    Ok(())
+}
+
+// From where a daemon's last datagram came, before it came and behind it.
+fn noted_sender(rt: &HostRuntime) -> Result<[bool; 4], Fail> {
+    let site = site_of_alpha(rt)?;
+    let sender = LastSender::new(rt.alloc());
+    let mut daemon = UdpWire::of_daemon(*rt, &site, HOST, 200, sender.shared())?;
+    let (mut client, port) = UdpWire::of_client(*rt, &site, 200)?;
+    let mut buf = vec![in rt.alloc(); 0u8; 49_185]?;
+    let place = SocketAddr::V4(SocketAddrV4::new(Ipv4Addr::LOCALHOST, port));
+    Ok([
+        sender.place() == None,
+        client.send(Address::Host(HOST), b"ask") == Ok(()),
+        daemon.receive(&mut buf) == Ok(Received::Datagram(3)),
+        sender.place() == Some(place),
+    ])
+}
+
+#[test]
+fn a_daemons_sender_is_noted(rt: HostRuntime) -> Result<(), Fail> {
+    assert_eq!(rt; noted_sender(&rt)?, [true; 4]);
     Ok(())
 }

@@ -3,6 +3,7 @@
 
 ghost use Rattle.std.specs.Prelude.{◌<◌, IfSome, length};
 
+use crate::directory::Owner;
 use crate::folder::path_in;
 use std::alloc::AllocError;
 use std::env::VarError;
@@ -13,6 +14,12 @@ use std::{env, fs, io};
 
 /// What each job has of the daemon's environment.
 const NAMES: [&str; 7] = ["PATH", "HOME", "USER", "LOGNAME", "SHELL", "LANG", "TZ"];
+
+/// Where a job that runs as its owner looks for programs.
+const PATH: &str = "/usr/local/bin:/usr/bin:/bin";
+
+/// Its shell.
+const SHELL: &str = "/bin/sh";
 
 // Adds a variable as this process has it. One that it hasn't, or whose value is no text, is left
 // out.
@@ -72,4 +79,22 @@ pub(crate) fn set_environment(
     add_names(rt, command)?;
     let text = read_listed(rt, dir)?;
     add_listed(rt, command, &text)
+}
+
+/// The same for a job that runs as its owner: his `HOME`, `USER` and `LOGNAME`, and `PATH` and
+/// `SHELL` as all such jobs have them, whatever the file lists.
+pub(crate) fn set_owners_environment(
+    rt: &HostRuntime,
+    command: &mut Command,
+    dir: &str,
+    owner: &str,
+    user: &Owner,
+) -> io::Result<()> {
+    set_environment(rt, command, dir)?;
+    command.env("PATH", PATH)?;
+    command.env("HOME", user.home.as_str())?;
+    command.env("USER", owner)?;
+    command.env("LOGNAME", owner)?;
+    command.env("SHELL", SHELL)?;
+    Ok(())
 }

@@ -1,16 +1,25 @@
 //! Folders: what stands in them, that of a host, and the lock of its daemon.
 
-ghost use Rattle.std.specs.Prelude.{◌≡◌, ◌++◌, IfOk, codes, string_bytes};
+ghost use Rattle.std.specs.Prelude.{◌≡◌, ◌++◌, ◌&&◌, ◌||◌, not, nat_eq, bit_and, IfOk, codes, string_bytes};
 ghost use Rattle.nqs_real.specs.Names.{name_at, request_text};
 
 use crate::site::SiteHost;
 use nqs_base::Name;
 use nqs_types::{HostId, RequestId};
-use std::fs::{DirBuilder, File, OpenOptions};
+use std::fs::{DirBuilder, File, OpenOptions, Permissions};
 use std::io::ErrorKind;
-use std::os::unix::fs::{DirBuilderExt, MetadataExt, OpenOptionsExt};
+use std::os::unix::fs::{DirBuilderExt, MetadataExt, OpenOptionsExt, PermissionsExt};
 use std::rt::HostRuntime;
 use std::{fs, io};
+
+/// The bits of a mode that say who may do what, and beside them those that are never set here.
+const ALL_MODES: u32 = 0o7777;
+
+/// What others than the owner may not have: to write.
+const OF_OTHERS: u32 = 0o022;
+
+/// The bit of a folder in which each may take away his own alone.
+const STICKY: u32 = 0o1000;
 
 /// The path of what has this name, or this path, in a folder.
 pub(crate) fn path_in(rt: &HostRuntime, folder: &str, name: &str) -> io::Result<String>
@@ -33,6 +42,60 @@ pub(crate) fn make_private(rt: &HostRuntime, path: &str) -> io::Result<bool> {
         Err(e) if e.kind() == ErrorKind::AlreadyExists => Ok(false),
         Err(e) => Err(e),
     }
+}
+
+/// Makes a folder of root's where it isn't there, and has it have this mode. Where a link, a file
+/// or another user's folder stands in its place it fails, and nothing is changed.
+pub(crate) fn make_roots(rt: &HostRuntime, path: &str, mode: u32) -> io::Result<bool> {
+    let is_made = make_private(rt, path)?;
+    let found = fs::symlink_metadata(rt, path)?;
+    if !found.is_dir() || found.uid() != 0 {
+        return Err(io::Error::from(ErrorKind::PermissionDenied));
+    }
+    if found.mode() & ALL_MODES != mode {
+        fs::set_permissions(rt, path, Permissions::from_mode(mode))?;
+    }
+    Ok(is_made)
+}
+
+// Can nobody but root put something else in the place of what stands in a folder of this user and
+// this mode? In one whose mode has the sticky bit nobody but root can take root's away, so it will
+// do for those on the way.
+fn keeps_roots(uid: u32, mode: u32, is_last: bool) -> bool
+    ensures { result ≡ (nat_eq uid 0 && (nat_eq (bit_and mode 18) 0 || (not (nat_eq (bit_and mode 512) 0) && not is_last))) }
+{
+    let is_closed = mode & OF_OTHERS == 0;
+    let is_sticky = mode & STICKY != 0 && !is_last;
+    uid == 0 && (is_closed || is_sticky)
+}
+
+fn is_kept_by_root(rt: &HostRuntime, path: &str, is_last: bool) -> io::Result<bool> {
+    let found = fs::metadata(rt, path)?;
+    Ok(keeps_roots(found.uid(), found.mode(), is_last))
+}
+
+// The folder that a path leads to before this place, where a part ends there.
+fn front_at(path: &str, place: usize) -> Option<&str> {
+    let (front, rest) = path.split_at_checked(place)?;
+    match (front.is_empty(), rest.is_empty() || rest.starts_with('/')) {
+        (true, _) => Some("/"),
+        (false, true) => Some(front),
+        (false, false) => None,
+    }
+}
+
+/// Can nobody but root change what stands in this folder, nor put another one in its place?
+pub fn is_roots_alone(rt: &HostRuntime, folder: &str) -> io::Result<bool> {
+    let path = fs::canonicalize(rt, folder)?;
+    let path = path.as_str();
+    for place in 0..=path.len() {
+        if let Some(front) = front_at(path, place) {
+            if !is_kept_by_root(rt, front, place == path.len())? {
+                return Ok(false);
+            }
+        }
+    }
+    Ok(true)
 }
 
 /// The path of a folder in another. Where it isn't there it is made, and the other is synced.

@@ -5,14 +5,15 @@ ghost use Rattle.std.specs.Prelude.{◌≡◌, ◌++◌, None, IfOk, codes, stri
 ghost use Rattle.nqs_real.specs.Names.{job_text};
 
 use crate::counted::counted;
-use crate::folder::{host_text, jobs_path, make_folder, path_in, request_text};
+use crate::folder::{host_text, jobs_path, path_in, request_text, sync_folder};
 use crate::kept::{KeptOrder, note_kill};
 use crate::leftovers::{end_jobs, tell_left};
 use crate::notices::{tell_failed, tell_kept, tell_launched};
 use crate::order::order_text;
+use crate::owners::RunsAs;
 use crate::shortage::is_shortage;
 use crate::site::SiteHost;
-use crate::starter::{LaunchedJob, Starter, write_kill};
+use crate::starter::{LaunchedJob, Starter, make_passed, write_kill};
 use nqs_outside::{Failed, Launcher};
 use nqs_types::{HostId, LaunchOrder, RequestId};
 use std::alloc::AllocError;
@@ -74,11 +75,14 @@ fn end_all(rt: &HostRuntime, jobs: &str) -> io::Result<()> {
 
 // The folder of the jobs of a host, without what an earlier daemon left: processes of its jobs, and
 // their files.
-fn make_jobs(rt: &HostRuntime, folder: &str) -> io::Result<String> {
+fn make_jobs(rt: &HostRuntime, folder: &str, runs_as: RunsAs) -> io::Result<String> {
+    make_passed(rt, folder, runs_as)?;
     let jobs = jobs_path(rt, folder)?;
     end_all(rt, &jobs)?;
     let _ = fs::remove_dir_all(rt, &jobs);
-    make_folder(rt, folder, "jobs")?;
+    if make_passed(rt, &jobs, runs_as)? {
+        sync_folder(rt, folder)?;
+    }
     Ok(jobs)
 }
 
@@ -88,9 +92,10 @@ fn make_jobs_of(
     dir: &str,
     site: &[SiteHost],
     host: HostId,
+    runs_as: RunsAs,
 ) -> io::Result<String> {
     let folder = path_in(rt, dir, host_text(site, host)?)?;
-    make_jobs(rt, &folder)
+    make_jobs(rt, &folder, runs_as)
 }
 
 // Has the job's end yet to be told? Where its shell has ended before, as one that was killed by
@@ -122,6 +127,7 @@ fn starter_of(
     dir: &str,
     site: &[SiteHost],
     host: HostId,
+    runs_as: RunsAs,
 ) -> io::Result<Starter> {
     let alloc = rt.alloc();
     Ok(Starter {
@@ -129,6 +135,7 @@ fn starter_of(
         program: String::from_str(alloc, program)?,
         dir: String::from_str(alloc, dir)?,
         host: String::from_str(alloc, host_text(site, host)?)?,
+        runs_as,
     })
 }
 
@@ -136,20 +143,23 @@ impl ShepherdLauncher {
     /// The launcher of a host's daemon, to be opened while the daemon has the host's lock. What is
     /// left of the host's jobs is ended. Where that can't be done in about a second and a half, it
     /// fails with `TimedOut`, and says on standard error what is left: else a job could run twice.
-    /// Jobs have folders in the folder `jobs` of the host's folder, which is made anew.
+    /// Jobs have folders in the folder `jobs` of the host's folder, which is made anew. Where they
+    /// run as their owners these are root's, and so is the host's folder; all may pass through
+    /// them.
     pub fn open(
         rt: HostRuntime,
         program: &str,
         dir: &str,
         site: &[SiteHost],
         host: HostId,
+        runs_as: RunsAs,
     ) -> io::Result<ShepherdLauncher>
         ensures { IfOk result (λ launcher. launcher.faults ≡ 0) }
     {
         let alloc = rt.alloc();
-        let jobs = make_jobs_of(&rt, dir, site, host)?;
+        let jobs = make_jobs_of(&rt, dir, site, host, runs_as)?;
         Ok(ShepherdLauncher {
-            starter: starter_of(rt, program, dir, site, host)?,
+            starter: starter_of(rt, program, dir, site, host, runs_as)?,
             site: site.to_vec(alloc)?,
             jobs,
             shepherds: Vec::new(alloc),

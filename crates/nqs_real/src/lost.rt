@@ -4,9 +4,9 @@ ghost use Rattle.std.specs.Prelude.{◌≡◌, ◌+◌, ◌<◌, ◌++◌, IfOk,
 ghost use Rattle.std.specs.List.{flat_map};
 ghost use Rattle.nqs_real.specs.Lost.{is_plain, digit, spelled, coded, coded_first, flat_name, longest_name, NamesDiffer};
 
-use crate::folder::{make_private, path_in};
+use crate::folder::path_in;
 use crate::notices::tell;
-use crate::put::{path_text, put_file};
+use crate::put::{Whose, make_whose, path_text, put_file};
 use std::alloc::Global;
 use std::io::ErrorKind;
 use std::rt::HostRuntime;
@@ -138,12 +138,13 @@ pub(crate) fn put_lost(
     output: &str,
     path: &[u8],
     bytes: &[u8],
+    whose: Whose,
     cause: &io::Error,
 ) -> io::Result<()> {
     let folder = format!(in rt.alloc(); "{output}.lost")?;
-    make_private(rt, &folder)?;
+    make_whose(rt, &folder, whose)?;
     let name = free_name(rt, &folder, &lost_name(rt.alloc(), path)?)?;
-    put_file(rt, &folder, name.as_bytes(), bytes)?;
+    put_file(rt, &folder, name.as_bytes(), bytes, whose)?;
     let _ = tell_lost(rt, path, &name, cause);
     Ok(())
 }

@@ -6,7 +6,7 @@ use crate::counted::counted;
 use crate::folder::{make_folder, name_text, path_in};
 use crate::launcher::job_name;
 use crate::notices::tell_failed;
-use crate::put::put_file;
+use crate::put::{Whose, put_file};
 use crate::site::SiteHost;
 use nqs_base::Name;
 use nqs_outside::{Failed, Printer};
@@ -42,7 +42,7 @@ impl FilePrinter {
     fn put(&self, device: &Name, order: &LaunchOrder, bytes: &[u8]) -> io::Result<()> {
         let job = job_name(&self.rt, &self.site, order.id, order.start)?;
         let path = path_in(&self.rt, name_text(device)?, &job)?;
-        put_file(&self.rt, &self.folder, path.as_bytes(), bytes)
+        put_file(&self.rt, &self.folder, path.as_bytes(), bytes, Whose::Own)
     }
 }
 

@@ -1,22 +1,27 @@
 //! The runner: a shell that runs a job's script in a session of its own.
 
-ghost use Rattle.std.specs.Prelude.{◌≡◌, None, IfOk};
+ghost use Rattle.std.specs.Prelude.{◌≡◌, None, IfOk, option_map};
+ghost use Rattle.nqs_real.specs.Accounts.{IsUser, IsUsable};
+ghost use Rattle.nqs_real.specs.Owners.{IsAllowed, MayStart};
 
 use crate::counted::counted;
+use crate::directory::{Found, Owner, find_owner};
 use crate::ended::{forget_start, has_started, keep_end, kept_end, note_start};
-use crate::environment::set_environment;
+use crate::environment::{set_environment, set_owners_environment};
 use crate::folder::{host_text, jobs_path, make_folder, make_host_folder, path_in, request_text};
 use crate::launcher::job_name;
 use crate::leftovers::{end_job, put_mark};
 use crate::limits::{add_limits, shell_starts};
 use crate::order::{JobOrder, read_order};
 use crate::outputs::{cut_outputs, end_with, make_output};
+use crate::owners::RunsAs;
 use crate::program::{add_words, end_session};
 use crate::shortage::{Waits, is_shortage};
 use crate::site::SiteHost;
 use nqs_outside::{Failed, RunEnd, Runner};
 use nqs_types::{HostId, RequestId};
 use std::io::ErrorKind;
+use std::os::unix::fs::chown;
 use std::os::unix::process::ExitStatusExt;
 use std::process::{Child, Command, ExitStatus, Stdio};
 use std::rt::HostRuntime;
@@ -38,12 +43,25 @@ const KILLS: u32 = 10;
 /// The status of a job that was not run.
 const NOT_RUN: u8 = 127;
 
+/// The status of a job whose owner is nobody as whom it may run.
+const NOT_ITS_OWN: u8 = 126;
+
 /// The status of a job that SIGKILL ended.
 const KILLED: u8 = 137;
 
 /// Reads the script as `sh FILE` does, with no rights for others on the files that it makes. Where
 /// the system wants memory it ends the job before the daemon.
 const SHELL: &str = "{ echo 500 >/proc/self/oom_score_adj; } 2>/dev/null; umask 077; . \"$0\"";
+
+/// The same in the home of the job's owner, or in the root folder where he can't go there.
+const OWNERS_SHELL: &str =
+    "{ echo 500 >/proc/self/oom_score_adj; } 2>/dev/null; umask 077; cd \"$HOME\" 2>/dev/null || cd /; . \"$0\"";
+
+/// What a job's owner has of its folder.
+const OWNED: [&str; 3] = ["script", "out", "err"];
+
+/// What the error output says of a job of root's, at a site whose jobs run as their owners.
+const OF_ROOT: &str = "nqs: jobs of root aren't run\n";
 
 /// What the error output says of a job whose shepherd ended before it.
 const LOST: &str = "nqs: the job's shepherd was lost, and what was left of the job was ended\n";
@@ -53,9 +71,11 @@ const NO_MEMORY: &str = "nqs: /bin/sh can't start with so little memory\n";
 
 /// Runs the script of a job by `/bin/sh`, in a session of its own, looks every 1 to 20 milliseconds
 /// whether it has ended or is to be killed, and then ends what is left of the job. How it ended is
-/// kept in the job's folder: who runs it again is told that. Trusted: the programs `setpriv`,
-/// `setsid`, `prlimit`, `sh`, `kill` and `pkill`, and that no job changes the files of the folder
-/// `jobs`.
+/// kept in the job's folder: who runs it again is told that. At a site whose jobs run as their
+/// owners, one whose owner this machine doesn't know, or is root, isn't run. Trusted: the programs
+/// `setpriv`, `setsid`, `prlimit`, `sh`, `kill`, `pkill`, `timeout` and `getent`, and that no job
+/// changes the files of the folder `jobs`, of which one that runs as its owner can change only its
+/// own `script`, `out` and `err`.
 #[derive(Drop)]
 pub struct ShellRunner {
     rt: HostRuntime,
@@ -64,6 +84,7 @@ pub struct ShellRunner {
     work: String,
     host: HostId,
     site: Vec<SiteHost>,
+    runs_as: RunsAs,
     faults: u64,
 }
 
@@ -74,6 +95,22 @@ struct Job {
     start: u16,
     name: String,
     place: String,
+}
+
+// As whom a job runs: as this process's user, as its owner, or not at all, for a cause that its
+// error output says.
+#[derive(Drop)]
+enum User {
+    Own,
+    Owner(Owner),
+    Refused(String),
+}
+
+// What came of a start.
+#[derive(Drop)]
+enum Begun {
+    Runs(Child),
+    Refused(String),
 }
 
 // The exit status, or 128 and the number of the signal that ended it.
@@ -202,14 +239,44 @@ fn end_of_lost(rt: &HostRuntime, place: &str) -> io::Result<RunEnd> {
     end_with(rt, place, NOT_RUN, LOST)
 }
 
+// Has a job's owner have its script and its outputs, which stand in a folder of root's.
+fn give(rt: &HostRuntime, place: &str, user: &Owner) -> io::Result<()>
+    requires { IsUser user.now }
+{
+    for name in OWNED {
+        let path = path_in(rt, place, name)?;
+        chown(rt, &path, Some(user.uid), Some(user.gid))?;
+    }
+    Ok(())
+}
+
+// Adds the words that have what follows run as this user.
+fn add_user(rt: &HostRuntime, command: &mut Command, user: &Owner) -> io::Result<()>
+    requires { IsUser user.now }
+{
+    let uid = format!(in rt.alloc(); "{}", user.uid)?;
+    let gid = format!(in rt.alloc(); "{}", user.gid)?;
+    let words = [
+        "--reuid",
+        uid.as_str(),
+        "--regid",
+        gid.as_str(),
+        "--init-groups",
+    ];
+    add_words(command, &words)?;
+    Ok(())
+}
+
 impl ShellRunner {
     /// The runner of a host's jobs, whose launcher made their folders, in the site's folder DIR.
-    /// Jobs run in the folder `work` of the host's folder; where it isn't there it is made.
+    /// Jobs run in the folder `work` of the host's folder, which is made where it isn't there;
+    /// those that run as their owners, in his home.
     pub fn open(
         rt: HostRuntime,
         dir: &str,
         site: &[SiteHost],
         host: HostId,
+        runs_as: RunsAs,
     ) -> io::Result<ShellRunner>
         ensures { IfOk result (λ runner. runner.faults ≡ 0) }
     {
@@ -221,21 +288,73 @@ impl ShellRunner {
             work: make_folder(&rt, &folder, "work")?,
             host,
             site: site.to_vec(rt.alloc())?,
+            runs_as,
             faults: 0,
         })
     }
 
-    fn add_shell(&self, command: &mut Command, job: &Job) -> io::Result<()> {
+    // What the error output says of a job whose owner the host doesn't know.
+    fn unknown_text(&self, owner: &str) -> io::Result<String> {
+        let host = host_text(&self.site, self.host)?;
+        Ok(format!(in self.rt.alloc(); "nqs: {host} has no user {owner}\n")?)
+    }
+
+    // As whom the jobs of this owner run, where they run as he.
+    fn user_in(&self, found: Found, owner: &str) -> io::Result<User>
+        requires found { IsUsable found }
+        requires owners { self.now.runs_as ≡ RunsAs.Owners }
+        ensures { IfOk result (IsAllowed self.now.runs_as) }
+    {
+        match found {
+            Found::User(user) => Ok(User::Owner(user)),
+            Found::Root => Ok(User::Refused(String::from_str(self.rt.alloc(), OF_ROOT)?)),
+            Found::Nobody => Ok(User::Refused(self.unknown_text(owner)?)),
+        }
+    }
+
+    // As whom the jobs of this owner run.
+    fn user_of(&self, owner: &str) -> io::Result<User>
+        ensures { IfOk result (IsAllowed self.now.runs_as) }
+    {
+        match self.runs_as {
+            RunsAs::Daemon => Ok(User::Own),
+            RunsAs::Owners => self.user_in(find_owner(&self.rt, owner)?, owner),
+        }
+    }
+
+    // The words of a shell in the folder `work`, as this process's user, without a right of its own
+    // that a unit gave the daemon, as that to a port.
+    fn add_shell(&self, command: &mut Command, job: &Job, order: &JobOrder) -> io::Result<()> {
+        add_words(command, &["--pdeathsig", "KILL"])?;
+        add_words(
+            command,
+            &["--inh-caps=-all", "--ambient-caps=-all", "setsid"],
+        )?;
+        add_limits(&self.rt, command, order)?;
         let script = format!(in self.rt.alloc(); "../jobs/{}/script", job.name)?;
         add_words(command, &["/bin/sh", "-c", SHELL, script.as_str()])?;
+        command.current_dir(&self.work)?;
         Ok(())
     }
 
-    fn add_words(&self, command: &mut Command, job: &Job, order: &JobOrder) -> io::Result<()> {
-        add_words(command, &["--pdeathsig", "KILL", "setsid"])?;
+    // The words of a shell in the home of the job's owner, as he. One `setpriv` does both: a change
+    // of user would take the signal away.
+    fn add_owners_shell(
+        &self,
+        command: &mut Command,
+        job: &Job,
+        order: &JobOrder,
+        user: &Owner,
+    ) -> io::Result<()>
+        requires { IsUser user.now }
+    {
+        add_words(command, &["--pdeathsig", "KILL"])?;
+        add_user(&self.rt, command, user)?;
+        command.arg("setsid")?;
         add_limits(&self.rt, command, order)?;
-        self.add_shell(command, job)?;
-        command.current_dir(&self.work)?;
+        let script = path_in(&self.rt, &job.place, "script")?;
+        add_words(command, &["/bin/sh", "-c", OWNERS_SHELL, script.as_str()])?;
+        command.current_dir("/")?;
         Ok(())
     }
 
@@ -250,35 +369,74 @@ impl ShellRunner {
         Ok(())
     }
 
-    // Makes a command, which has no words yet, that of the job by its order.
-    fn add_order(&self, command: &mut Command, job: &Job, order: &JobOrder) -> io::Result<()> {
-        set_environment(&self.rt, command, &self.dir)?;
-        self.add_words(command, job, order)?;
+    // Makes a command, which has no words yet, that of the job by its order, for its owner if there
+    // is one.
+    fn add_order(
+        &self,
+        command: &mut Command,
+        job: &Job,
+        order: &JobOrder,
+        owner: Option<&Owner>,
+    ) -> io::Result<()>
+        requires { MayStart self.now.runs_as (option_map (λ user. user.now) owner) }
+    {
+        match owner {
+            None => {
+                set_environment(&self.rt, command, &self.dir)?;
+                self.add_shell(command, job, order)?;
+            }
+            Some(user) => {
+                set_owners_environment(&self.rt, command, &self.dir, order.owner, user)?;
+                self.add_owners_shell(command, job, order, user)?;
+            }
+        }
         self.set_names(command, job, order)
     }
 
-    // The same, by the order that the job's folder has.
-    fn add_job(&self, command: &mut Command, job: &Job) -> io::Result<()> {
-        let text = read_text(&self.rt, &job.place)?;
-        let order = read_order(&text)?;
-        self.add_order(command, job, &order)
-    }
-
-    fn spawn(&self, command: &mut Command, job: &Job) -> io::Result<Child> {
+    fn spawn(&self, command: &mut Command, job: &Job, owner: Option<&Owner>) -> io::Result<Child>
+        requires { MayStart self.now.runs_as (option_map (λ user. user.now) owner) }
+    {
         command.stdout(make_output(&self.rt, &job.place, "out")?);
         command.stderr(make_output(&self.rt, &job.place, "err")?);
+        if let Some(user) = owner {
+            give(&self.rt, &job.place, user)?;
+        }
         command.stdin(Stdio::null()).spawn(&self.rt)
     }
 
     // Starts the job by this command, which has no words yet.
-    fn spawn_job(&self, command: &mut Command, job: &Job) -> io::Result<Child> {
-        self.add_job(command, job)?;
-        self.spawn(command, job)
+    fn spawn_by(
+        &self,
+        command: &mut Command,
+        job: &Job,
+        order: &JobOrder,
+        owner: Option<&Owner>,
+    ) -> io::Result<Begun>
+        requires { MayStart self.now.runs_as (option_map (λ user. user.now) owner) }
+    {
+        self.add_order(command, job, order, owner)?;
+        Ok(Begun::Runs(self.spawn(command, job, owner)?))
     }
 
-    fn begin(&self, job: &Job) -> io::Result<Child> {
+    fn spawn_as(&self, job: &Job, order: &JobOrder, owner: Option<&Owner>) -> io::Result<Begun>
+        requires { MayStart self.now.runs_as (option_map (λ user. user.now) owner) }
+    {
         let mut command = Command::new(self.rt.alloc(), "setpriv")?;
-        self.spawn_job(&mut command, job)
+        self.spawn_by(&mut command, job, order, owner)
+    }
+
+    fn begin_order(&self, job: &Job, order: &JobOrder) -> io::Result<Begun> {
+        match self.user_of(order.owner)? {
+            User::Own => self.spawn_as(job, order, None),
+            User::Owner(user) => self.spawn_as(job, order, Some(&user)),
+            User::Refused(text) => Ok(Begun::Refused(text)),
+        }
+    }
+
+    fn begin(&self, job: &Job) -> io::Result<Begun> {
+        let text = read_text(&self.rt, &job.place)?;
+        let order = read_order(&text)?;
+        self.begin_order(job, &order)
     }
 
     // Starts the job, whose start is noted, and runs it to its end. A start that a shortage keeps
@@ -286,7 +444,8 @@ impl ShellRunner {
     fn run_noted(&self, job: &Job) -> io::Result<RunEnd> {
         let rt = &self.rt;
         match self.begin(job) {
-            Ok(mut child) => {
+            Ok(Begun::Refused(text)) => end_with(rt, &job.place, NOT_ITS_OWN, &text),
+            Ok(Begun::Runs(mut child)) => {
                 let status = finish(rt, &mut child, &job.place)?;
                 end_patiently(rt, &job.place, status)
             }

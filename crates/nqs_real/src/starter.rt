@@ -1,7 +1,8 @@
 //! What starts a job's shepherd, and starts it again until the job's end is known.
 
-use crate::folder::{make_private, path_in};
+use crate::folder::{make_private, make_roots, path_in};
 use crate::leftovers::put_shell_mark;
+use crate::owners::RunsAs;
 use crate::program::{add_words, start_quietly};
 use std::fs::OpenOptions;
 use std::io::{ErrorKind, Write};
@@ -50,8 +51,26 @@ pub(crate) fn write_kill(rt: &HostRuntime, place: &str) -> io::Result<()> {
     }
 }
 
-fn write_job(rt: &HostRuntime, place: &str, order: &str, script: &[u8]) -> io::Result<()> {
-    make_private(rt, place)?;
+/// The mode of the folders on the way to a job's script, where its owner is to reach it.
+pub(crate) const PASSED: u32 = 0o711;
+
+/// Makes a folder on the way to a job's script, where it isn't there: for this process's user
+/// alone, or where jobs run as their owners for all to pass through.
+pub(crate) fn make_passed(rt: &HostRuntime, path: &str, runs_as: RunsAs) -> io::Result<bool> {
+    match runs_as {
+        RunsAs::Daemon => make_private(rt, path),
+        RunsAs::Owners => make_roots(rt, path, PASSED),
+    }
+}
+
+fn write_job(
+    rt: &HostRuntime,
+    place: &str,
+    order: &str,
+    script: &[u8],
+    runs_as: RunsAs,
+) -> io::Result<()> {
+    make_passed(rt, place, runs_as)?;
     write_in(rt, place, "script", script)?;
     write_in(rt, place, "order", order.as_bytes())
 }
@@ -73,6 +92,7 @@ pub(crate) struct Starter {
     pub program: String,
     pub dir: String,
     pub host: String,
+    pub runs_as: RunsAs,
 }
 
 impl Starter {
@@ -117,7 +137,7 @@ impl Starter {
         is_killed: bool,
     ) -> io::Result<Child> {
         need_shell(&self.rt)?;
-        write_job(&self.rt, &job.place, order, script)?;
+        write_job(&self.rt, &job.place, order, script, self.runs_as)?;
         if is_killed {
             write_kill(&self.rt, &job.place)?;
         }

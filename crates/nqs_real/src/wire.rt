@@ -4,6 +4,7 @@ ghost use Rattle.std.specs.Prelude.{◌≡◌, None, IfOk, IfSome, length};
 ghost use Rattle.nqs_outside.specs.Asked.{IsWithin};
 
 use crate::counted::counted;
+use crate::sender::LastSender;
 use crate::site::SiteHost;
 use libc::net::{SO_RCVBUF, SOL_SOCKET, setsockopt};
 use nqs_outside::{Address, Failed, Received, Wire};
@@ -38,15 +39,17 @@ enum Heard {
 /// after each `Quiet`. So under any traffic a `Quiet` comes once a wait, and after it the next
 /// receive looks at the socket.
 ///
-/// A daemon's socket takes datagrams from anywhere; who sent one is not known. That of a client or
-/// a shepherd is connected to the place of its first send: from then on the system hands it what
-/// comes from there alone. Word of the system that nobody is at that place fails no send, and a
-/// receive waits on to the end of its wait.
+/// A daemon's socket takes datagrams from anywhere; from where the last one came, as the system
+/// says, is noted for its operator alone. That of a client or a shepherd is connected to the place
+/// of its first send: from then on the system hands it what comes from there alone. Word of the
+/// system that nobody is at that place fails no send, and a receive waits on to the end of its
+/// wait.
 #[derive(Drop)]
 pub struct UdpWire {
     rt: HostRuntime,
     socket: UdpSocket,
     heard: Heard,
+    sender: LastSender,
     site: Vec<SiteHost>,
     wait: Duration,
     began: Option<Instant>,
@@ -72,17 +75,21 @@ fn no_such_host() -> io::Error {
 
 impl UdpWire {
     /// The wire of a host's daemon, at the address and port of the site. The wait is in
-    /// milliseconds, from 1 to 1,000.
+    /// milliseconds, from 1 to 1,000. From where each datagram comes is noted there.
     pub fn of_daemon(
         rt: HostRuntime,
         site: &[SiteHost],
         host: HostId,
         wait: u64,
+        sender: LastSender,
     ) -> io::Result<UdpWire>
         ensures { IfOk result (λ wire. (wire.receive_faults ≡ 0) × (wire.send_faults ≡ 0)) }
     {
         match site.get(host.0 as usize) {
-            Some(own) => UdpWire::bind(rt, at(own.address, own.port), Heard::All, site, wait),
+            Some(own) => {
+                let place = at(own.address, own.port);
+                UdpWire::bind(rt, place, Heard::All, site, wait, sender)
+            }
             None => Err(no_such_host()),
         }
     }
@@ -93,7 +100,7 @@ impl UdpWire {
         ensures { IfOk result (λ made. (made.0.receive_faults ≡ 0) × (made.0.send_faults ≡ 0)) }
     {
         let own = at(Ipv4Addr::LOCALHOST, 0);
-        let wire = UdpWire::bind(rt, own, Heard::Next, site, wait)?;
+        let wire = UdpWire::bind(rt, own, Heard::Next, site, wait, LastSender::unnoted())?;
         let port = wire.socket.local_addr()?.port();
         Ok((wire, port))
     }
@@ -104,6 +111,7 @@ impl UdpWire {
         heard: Heard,
         site: &[SiteHost],
         wait: u64,
+        sender: LastSender,
     ) -> io::Result<UdpWire>
         ensures { IfOk result (λ wire. (wire.receive_faults ≡ 0) × (wire.send_faults ≡ 0)) }
     {
@@ -114,6 +122,7 @@ impl UdpWire {
             rt,
             socket,
             heard,
+            sender,
             site,
             wait: Duration::from_millis(wait.clamp(1, SECOND)),
             began: None,
@@ -200,7 +209,10 @@ impl UdpWire {
     {
         self.socket.set_read_timeout(Some(left))?;
         match self.socket.recv_from(buf) {
-            Ok((count, _)) => Ok(Some(Received::Datagram(count))),
+            Ok((count, from)) => {
+                self.sender.note(from);
+                Ok(Some(Received::Datagram(count)))
+            }
             Err(e) if e.kind() == ErrorKind::ConnectionRefused => Ok(None),
             Err(e) if is_quiet(e.kind()) => {
                 self.began = None;

@@ -1,0 +1,34 @@
+-- What is done for a caller: what his words ask for, with the name that the system has of him.
+use Rattle.std.specs.Prelude.{◌≡◌, ◌⊎◌, ℕ, List, Option, None, Some}
+use Rattle.nqs_types.specs.declared.message.Tool.{Tool}
+use Rattle.nqs_types.specs.declared.message.Tool.TheVariants.{Qsub, Qstat, Qdel, Qmgr, Tick}
+use Rattle.nqs_clients.specs.declared.status.NqsStatus.{NqsStatus}
+use Rattle.nqs_seal.specs.Caller.{asked_as}
+use Rattle.nqs_cli.specs.Forms.{Words}
+use Rattle.nqs_cli.specs.Runs.{Seen, Parts, Runs, IsRefused, IsUntouched, LacksMemory, no_parts}
+use Rattle.nqs_cli.specs.declared.form.Form.{Form}
+use Rattle.nqs_cli.specs.declared.form.Form.TheVariants.{Format, Daemon, Client, Shepherd}
+
+-- the words with the name put in do what they do; words that no caller may say are refused
+abbrev pub RunsAsked : Seen → Option Words → Parts → NqsStatus → Type 0
+RunsAsked e None parts status = IsRefused e parts status
+RunsAsked e (Some words) parts status = Runs e words parts status
+
+-- What is done for a caller of this name, by the words that he types.
+abbrev pub RunsAs : Seen → List ℕ → Words → Parts → NqsStatus → Type 0
+RunsAs e name words parts status = RunsAsked e (asked_as name words) parts status ⊎ (LacksMemory status × (parts ≡ no_parts) × IsUntouched e)
+
+-- by one of the tools of users
+abbrev pub IsOfUsers : Tool → Type 0
+IsOfUsers Qsub = Unit {0}
+IsOfUsers Qstat = Unit {0}
+IsOfUsers Qdel = Unit {0}
+IsOfUsers Qmgr = Unit {0}
+IsOfUsers Tick = ⊥
+
+-- a daemon is asked, for this user, by one of the tools of users
+abbrev pub AsksAs : List ℕ → Form → Type 0
+AsksAs name (Client errand) = (errand.user ≡ name) × IsOfUsers errand.tool
+AsksAs name Format = ⊥
+AsksAs name (Daemon turns) = ⊥
+AsksAs name (Shepherd named start) = ⊥
