@@ -14,7 +14,7 @@ use Rattle.nqs_store.specs.Active.{Active}
 use Rattle.nqs_store.specs.Sound.{IsSoundHost}
 use Rattle.nqs_node.specs.Carried.{Kept, IsMade}
 use Rattle.nqs_node.specs.Leaves as nodes
-use Rattle.nqs_node.specs.Nodes.{bare, content_of, is_stopped}
+use Rattle.nqs_node.specs.Nodes.{bare, sized, content_of, is_stopped}
 use Rattle.nqs_node.specs.Reading.{AreShort}
 use Rattle.nqs_store.specs.declared.fault.StoreFault.{StoreFault}
 use Rattle.nqs_store.specs.declared.fault.StoreFault.TheVariants as fault
@@ -118,7 +118,7 @@ module _ {D T : Type 0} {g : disk.Ghosts D} (old now : Node D g) where
   }
 
   pub ok_taken : (was says : List Output) (step : Plain → Stepped (List ℕ)) (x : T) → AreRight 16 was → AreShort was
-      → AreRight 16 (map shown (step (bare old)).outputs) → AreShort (map shown (step (bare old)).outputs)
+      → AreRight 16 (map shown (step (bare old)).outputs) → AreShort (map shown (step (sized old)).outputs)
       → nodes.TakesStep old now was says step (Ok x) → TakesStep old now was says step (Ok x)
   ok_taken was says step x was_right was_short right short takes = record {
     right = alike_right 16 _ _ _ takes.alike was_right right;

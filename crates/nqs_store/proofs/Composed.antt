@@ -35,7 +35,7 @@ use Rattle.nqs_store.proofs.Changed.{part_apart}
 use Rattle.nqs_store.proofs.Runs.{stops_before, stops_behind}
 
 -- where no checkpoint is due
-module _ (a : Active) (not_due : is_due a.records ≡ false) where
+module _ (a : Active) (not_due : is_due a.is_old a.records ≡ false) where
   pub here : ready a ≡ a
   here = ap (λ (b : Bool). if b then turned_to a else a) not_due
 
@@ -66,7 +66,7 @@ module _ (a : Active) (not_due : is_due a.records ≡ false) where
       ∙ (let none : moment (old (journal_of a)) + 0 ≡ moment (old (journal_of a)) = omega arith in none)
 
 -- where one is due
-module _ (a : Active) (due : is_due a.records ≡ true) where
+module _ (a : Active) (due : is_due a.is_old a.records ≡ true) where
   pub there : ready a ≡ turned_to a
   there = ap (λ (b : Bool). if b then turned_to a else a) due
 
@@ -147,7 +147,8 @@ module _ {D : Type 0} {g : disk.Ghosts D} where
       }
 
   -- only the calls of the change
-  module _ (old now : Store D g) (puts : List (List ℕ)) (host : Host) (later : Plain) (not_due : is_due (active_of old).records ≡ false) where
+  module _ (old now : Store D g) (puts : List (List ℕ)) (host : Host) (later : Plain)
+      (not_due : is_due (active_of old).is_old (active_of old).records ≡ false) where
     abbrev a : Active
     a = active_of old
 
@@ -220,7 +221,8 @@ module _ {D : Type 0} {g : disk.Ghosts D} where
             (subst (IsCutOn a fails puts (history_of old) (history_of now) before later) is cut)
 
   -- only the calls of a checkpoint, which one of them cut off
-  module _ (old now : Store D g) (puts : List (List ℕ)) (host : Host) (later : Plain) (snapshot : List ℕ) (due : is_due (active_of old).records ≡ true)
+  module _ (old now : Store D g) (puts : List (List ℕ)) (host : Host) (later : Plain) (snapshot : List ℕ)
+      (due : is_due (active_of old).is_old (active_of old).records ≡ true)
       (t : Turning HostStops old now snapshot host) where
     abbrev a' : Active
     a' = active_of old
@@ -274,7 +276,8 @@ module _ {D : Type 0} {g : disk.Ghosts D} where
     turn_cut fails before which (inr cut) = subst (IsCutAt a' fails puts (history_of old) (history_of now) before later) (sym cut.0) (due, cut.1)
 
   -- the calls of a checkpoint, and then those of the change
-  module _ (old mid now : Store D g) (puts : List (List ℕ)) (host : Host) (later : Plain) (snapshot : List ℕ) (due : is_due (active_of old).records ≡ true)
+  module _ (old mid now : Store D g) (puts : List (List ℕ)) (host : Host) (later : Plain) (snapshot : List ℕ)
+      (due : is_due (active_of old).is_old (active_of old).records ≡ true)
       (turned : active_of mid ≡ turned_to (active_of old)) (t : Turning (λ planned run. run ≡ planned) old mid snapshot host) where
     abbrev b : Active
     b = active_of old
