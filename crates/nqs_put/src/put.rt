@@ -1,6 +1,6 @@
 //! The parts.
 
-ghost use Rattle.std.specs.Prelude.{◌≡◌, ◌++◌, ◌∷◌, [], codes, OnOk, OnErr};
+ghost use Rattle.std.specs.Prelude.{◌≡◌, ◌+◌, ◌<◌, ◌++◌, ◌∷◌, [], codes, length, OnOk, OnErr, vec_capacity, vec_len};
 ghost use Rattle.std.specs.Fmt.{decimal};
 ghost use Rattle.nqs_rules.specs.Text.{id_text, named_text};
 ghost use Rattle.nqs_rules.specs.Transcript.{host_text};
@@ -14,6 +14,7 @@ use std::alloc::Global;
 pub fn put_text(text: &[u8], out: &mut Vec<u8>) -> Result<(), Memory>
     ensures put { OnOk result (out.new.items ≡ out.old.items ++ text.now) }
     ensures front { OnErr result (IsFrontPut out.old.items text.now out.new.items) }
+    ensures full { OnErr result (vec_capacity out.old < vec_len out.old + length text.now) }
 {
     out.extend_from_slice(text)?;
     Ok(())
@@ -33,6 +34,7 @@ pub fn put_about(before: &[u8], name: &Name, after: &[u8], out: &mut Vec<u8>) ->
 pub fn put_word(text: &[u8], out: &mut Vec<u8>) -> Result<(), Memory>
     ensures put { OnOk result (out.new.items ≡ out.old.items ++ (codes " " ++ text.now)) }
     ensures front { OnErr result (IsFrontPut out.old.items (codes " " ++ text.now) out.new.items) }
+    ensures full { OnErr result (vec_capacity out.old < vec_len out.old + 1 + length text.now) }
 {
     out.push(b' ')?;
     out.extend_from_slice(text)?;
@@ -43,6 +45,7 @@ pub fn put_word(text: &[u8], out: &mut Vec<u8>) -> Result<(), Memory>
 pub fn put_line_end(out: &mut Vec<u8>) -> Result<(), Memory>
     ensures put { OnOk result (out.new.items ≡ out.old.items ++ 10 ∷ []) }
     ensures front { OnErr result (IsFrontPut out.old.items (10 ∷ []) out.new.items) }
+    ensures full { OnErr result (vec_capacity out.old < vec_len out.old + 1) }
 {
     out.push(b'\n')?;
     Ok(())
@@ -62,6 +65,7 @@ pub fn put_decimal(alloc: Global, number: u64, out: &mut Vec<u8>) -> Result<(), 
 pub fn put_host(site: &[Name], host: HostId, out: &mut Vec<u8>) -> Result<(), Memory>
     ensures put { OnOk result (out.new.items ≡ out.old.items ++ host_text site.now host) }
     ensures front { OnErr result (IsFrontPut out.old.items (host_text site.now host) out.new.items) }
+    ensures full { OnErr result (vec_capacity out.old < vec_len out.old + length (host_text site.now host)) }
 {
     if let Some(name) = site.get(host.0 as usize) {
         out.extend_from_slice(name.as_bytes())?;
