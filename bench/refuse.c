@@ -34,6 +34,8 @@ static long made = 0;
 static long lacked = 0;
 static long larger = 0;
 static int counts = 0;
+static char *counted = NULL;
+static char *callers_to = NULL;
 static uintptr_t callers[MOST];
 static int depth = 0;
 
@@ -66,9 +68,16 @@ static void write_callers(FILE *file) {
 
 static void write_counts(FILE *file) { fprintf(file, "%ld\n%ld\n%ld\n", made, lacked, larger); }
 
-/* Has a file written, whose name is in the environment, if it is. */
+/* Takes a word out of the environment, which what the program starts doesn't find there, if it is. */
+static char *taken(const char *name) {
+    char *word = getenv(name) ? strdup(getenv(name)) : NULL;
+    unsetenv(name);
+    return word;
+}
+
+/* Has a file written that was named. */
 static void write_to(const char *name, void (*writes)(FILE *)) {
-    FILE *file = getenv(name) ? fopen(getenv(name), "w") : NULL;
+    FILE *file = name ? fopen(name, "w") : NULL;
     if (file) {
         writes(file);
         fclose(file);
@@ -103,13 +112,16 @@ static size_t product(size_t count, size_t size) {
 __attribute__((constructor)) static void begin(void) {
     const char *number = getenv("REFUSED");
     refused = number ? atol(number) : 0;
+    counted = taken("COUNTED");
+    callers_to = taken("CALLERS");
+    unsetenv("LD_PRELOAD");
     counts = 1;
 }
 
 __attribute__((destructor)) static void end(void) {
     counts = 0;
-    write_to("COUNTED", write_counts);
-    write_to("CALLERS", write_callers);
+    write_to(counted, write_counts);
+    write_to(callers_to, write_callers);
 }
 
 void *malloc(size_t size) { return told(refuses(size) ? NULL : __libc_malloc(size), size); }

@@ -160,6 +160,12 @@ class Daemon:
         self.child.kill()
         self.child.wait()
 
+    def seconds(self):
+        """How long the processor worked for it."""
+        with open(f"/proc/{self.child.pid}/stat") as stat:
+            times = stat.read().rpartition(")")[2].split()[11:13]
+        return sum(map(int, times)) / os.sysconf("SC_CLK_TCK")
+
     def memory(self, which="VmHWM"):
         with open(f"/proc/{self.child.pid}/status") as status:
             for line in status:
