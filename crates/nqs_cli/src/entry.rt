@@ -5,11 +5,13 @@ ghost use Rattle.nqs_words.specs.Values.{name_of};
 
 use crate::caller::run_as;
 use crate::dispatch::run;
+use crate::machine::status_of_end;
 use crate::real::RealMachine;
 use crate::told::{CALLER_FORMS, FORMS, tell_forms, tell_no_name};
 use nqs_base::Memory;
 use nqs_clients::NqsStatus;
 use nqs_real::{Reading, Writing, caller_name, fill_streams, tell_part};
+use nqs_seal::has_folders;
 use nqs_words::name_of;
 use std::process::ExitCode;
 use std::rt::HostRuntime;
@@ -86,6 +88,21 @@ fn caller_of(rt: &HostRuntime) -> Result<String, NqsStatus>
     }
 }
 
+// Whether the words are those of a tool whose outputs stand in folders under a key, and the site
+// has one; other words aren't looked at further here.
+fn is_placed(machine: &mut RealMachine, words: &[String]) -> Result<bool, NqsStatus> {
+    let [tool, dir, ..] = words else {
+        return Ok(false);
+    };
+    if !has_folders(true, tool) {
+        return Ok(false);
+    }
+    match machine.is_sealed(dir) {
+        Ok(is_sealed) => Ok(is_sealed),
+        Err(end) => Err(status_of_end(end)),
+    }
+}
+
 // The caller's name is had before anything of the site is read.
 fn status_of_caller(rt: &HostRuntime) -> NqsStatus {
     if fill_streams(rt).is_err() {
@@ -100,10 +117,15 @@ fn status_of_caller(rt: &HostRuntime) -> NqsStatus {
         Err(status) => return status,
     };
     let mut machine = RealMachine::new(*rt, CALLER_FORMS);
+    let is_sealed = match is_placed(&mut machine, &words) {
+        Ok(is_sealed) => is_sealed,
+        Err(status) => return status,
+    };
     let mut input = Reading::new(rt.reader());
     let mut output = Writing::new(io::writer(rt));
     run_as(
         rt.alloc(),
+        is_sealed,
         &name,
         &words,
         &mut machine,

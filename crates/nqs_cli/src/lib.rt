@@ -2,7 +2,8 @@
 //!
 //! `run` picks by the words what is done: a host is formatted, or serves; a client asks; a shepherd
 //! tends a job. All that the machine lent goes back to it, whatever the status. `run_as` does it
-//! for the caller of the program `nqs_ask`: a client asks, in his name.
+//! for the caller of the program `nqs_ask`: a client asks, in his name, and at a site with a key
+//! submits into the folder that has it.
 #![tactic(auto)]
 
 mod asking;
@@ -21,7 +22,7 @@ mod station;
 mod told;
 mod wire;
 
-pub use caller::{callers_ask_as_themselves, run_as};
+pub use caller::{callers_ask_as_themselves, callers_submit_into_their_folders, run_as};
 pub use dispatch::run;
 pub use entry::{ask_program, program};
 pub use form::{Form, Order, read_order};

@@ -42,6 +42,9 @@ pub trait Notices {
     /// The words are in no form.
     fn not_in_form(&self);
 
+    /// The words name a folder of outputs where a caller's stand in the one that has his name.
+    fn names_folder(&self);
+
     /// The site in this folder has no host of this name.
     fn no_such_host(&self, dir: &str, name: &str);
 

@@ -14,9 +14,10 @@ use crate::machine::{Machine, MachineEnd, Notices};
 use crate::notes::RealNotes;
 use crate::parts::{Around, DaemonParts, ShepherdParts};
 use crate::told::{
-    tell_broken, tell_end, tell_fault, tell_forms, tell_high_port, tell_host, tell_key,
-    tell_key_fault, tell_launcher, tell_line, tell_lock, tell_missing, tell_no_file, tell_no_key,
-    tell_not_roots, tell_others, tell_port, tell_site, tell_start, tell_unbooted, tell_used,
+    tell_broken, tell_end, tell_fault, tell_folder, tell_forms, tell_high_port, tell_host,
+    tell_key, tell_key_fault, tell_launcher, tell_line, tell_lock, tell_missing, tell_no_file,
+    tell_no_key, tell_not_roots, tell_others, tell_port, tell_site, tell_start, tell_unbooted,
+    tell_used,
 };
 use crate::wire::RealWire;
 use nqs_base::{Memory, Name, NameList};
@@ -346,6 +347,19 @@ impl RealMachine {
         Ok((wire_under(&self.rt, socket, key)?, port))
     }
 
+    // Whether a site has a key.
+    fn has_key(&self, dir: &str) -> Result<bool, PartFault> {
+        let site = site_at(&self.rt, dir)?;
+        let key = key_of(&self.rt, dir, &site)?;
+        Ok(matches!(key, SiteKey::Sealed(_)))
+    }
+
+    /// Whether the hosts of a site hear only who has its key.
+    pub(crate) fn is_sealed(&mut self, dir: &str) -> Result<bool, MachineEnd> {
+        let made = self.has_key(dir);
+        self.answer(made)
+    }
+
     fn client_wire(&self, dir: &str) -> Result<(RealWire, u16), PartFault> {
         let site = site_at(&self.rt, dir)?;
         let key = key_of(&self.rt, dir, &site)?;
@@ -457,6 +471,10 @@ impl Notices for RealMachine {
 
     fn not_in_form(&self) {
         tell_forms(&self.rt, self.forms);
+    }
+
+    fn names_folder(&self) {
+        tell_folder(&self.rt);
     }
 
     fn no_such_host(&self, dir: &str, name: &str) {

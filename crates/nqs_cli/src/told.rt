@@ -115,6 +115,14 @@ pub(crate) fn tell_forms(rt: &HostRuntime, forms: &str) {
     let _ = rt.eprintln(forms);
 }
 
+/// Says that a caller names a folder of outputs where his stand in the one that has his name.
+pub(crate) fn tell_folder(rt: &HostRuntime) {
+    tell(
+        rt,
+        "-do isn't for users here: the outputs of your requests stand in the folder of your name",
+    );
+}
+
 /// Says that the caller has no name under which a host knows users.
 pub(crate) fn tell_no_name(rt: &HostRuntime, name: Option<&str>) -> io::Result<()> {
     let who = name.unwrap_or("whose number the system has no account for");

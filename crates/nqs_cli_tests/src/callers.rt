@@ -30,15 +30,33 @@ fn answering(alloc: Global) -> Result<MemMachine, Memory> {
     Ok(MemMachine::new(alloc, arrivals, 0))
 }
 
-// The status with which a caller of this name ends, who types this line, what was written, and how
-// much the machine lent.
-fn ends(alloc: Global, name: &str, line: &str) -> Result<(u8, usize, usize), Memory> {
+// The status with which a caller of this name ends, who types this line at a site with a key or
+// without one, what was written, and how much the machine lent.
+fn ends_at(
+    alloc: Global,
+    is_sealed: bool,
+    name: &str,
+    line: &str,
+) -> Result<(u8, usize, usize), Memory> {
     let words = words_of(alloc, line)?;
     let mut machine = answering(alloc)?;
     let mut out = MemSink::new(alloc, 100, Vec::new(alloc));
     let mut input = ListSource::new(b"");
-    let status = run_as(alloc, name, &words, &mut machine, &mut input, &mut out);
+    let status = run_as(
+        alloc,
+        is_sealed,
+        name,
+        &words,
+        &mut machine,
+        &mut input,
+        &mut out,
+    );
     Ok((status.number(), out.taken().len(), machine.lent().len()))
+}
+
+// The same at a site without a key.
+fn ends(alloc: Global, name: &str, line: &str) -> Result<(u8, usize, usize), Memory> {
+    ends_at(alloc, false, name, line)
 }
 
 // Callers ask by the four tools.
@@ -69,5 +87,19 @@ fn callers_do_nothing_else(rt: HostRuntime) -> Result<(), Fail> {
         ends(alloc, "", "qstat D alpha")?,
     ];
     assert_eq!(rt; shown, [(2, 0, 0); 7]);
+    Ok(())
+}
+
+// Under a key they ask too, but name no folder of outputs.
+#[test]
+fn callers_name_no_folder_under_a_key(rt: HostRuntime) -> Result<(), Fail> {
+    let alloc = rt.alloc();
+    let shown = [
+        ends_at(alloc, true, "ann", "qsub D alpha")?,
+        ends_at(alloc, true, "ann", "qstat D alpha")?,
+        ends_at(alloc, true, "ann", "qsub D alpha -do ann")?,
+        ends_at(alloc, false, "ann", "qsub D alpha -do ann")?,
+    ];
+    assert_eq!(rt; shown, [(0, 3, 2), (0, 3, 2), (2, 0, 0), (0, 3, 2)]);
     Ok(())
 }

@@ -377,6 +377,8 @@ impl Notices for MemMachine {
 
     fn not_in_form(&self) {}
 
+    fn names_folder(&self) {}
+
     fn no_such_host(&self, _dir: &str, _name: &str) {}
 
     fn has_disks(&self) {}

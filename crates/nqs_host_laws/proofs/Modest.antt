@@ -42,7 +42,7 @@ use Rattle.nqs_rules.specs.Access.{rank, may_command}
 use Rattle.nqs_rules.specs.Order.{pick}
 use Rattle.nqs_rules.specs.Rows.{queue_meant, submit_causes, delete_causes}
 use Rattle.nqs_rules.specs.Fits.{edit_causes}
-use Rattle.nqs_rules.specs.Sane.{is_of_site, is_asked_job, is_short_script, is_short_output, is_sane_carried, is_sane_command, is_sane_body, is_sane_low}
+use Rattle.nqs_rules.specs.Sane.{is_of_site, is_asked, is_short_script, is_short_output, is_sane_carried, is_sane_command, is_sane_body, is_sane_low}
 use Rattle.nqs_rules.specs.Sane.{is_sane_event}
 use Rattle.nqs_rules.specs.InOrder.{IsInOrder}
 use Rattle.nqs_rules.specs.Stepped.{Stepped, map_change, part_bytes, puts_of}
@@ -124,7 +124,7 @@ module _ {E : Type 0} (s : State E) (h : IsInOrder s) where
       by (k ∷ ks) few = (tt, le-leb (length (k ∷ ks)) 255 few)
 
   allowed_modest : (now : ℕ) (a : Asker) (user : List ℕ) (c : Command) → is_sane_command c ≡ true → Modest (on_allowed now a user c s).change
-  allowed_modest now a user (command.Submit sub) sane = submit_modest a sub (and_parts (is_asked_job sub.job) (is_short_script sub.script) sane).1
+  allowed_modest now a user (command.Submit sub) sane = submit_modest a sub (and_parts (is_asked sub) (is_short_script sub.script) sane).1
   allowed_modest now a user (command.Edit e) sane = unless a (first_refusal (edit_causes e s)) _ (tt, refl)
   allowed_modest now a user (command.Stat owner queues) sane = unless a (first_refusal (stat_causes queues s)) _ (tt, tt)
   allowed_modest now a user (command.Delete id forced) sane = unless a (first_refusal (delete_causes user id forced s)) (delete_meant a id (meant_row id s))

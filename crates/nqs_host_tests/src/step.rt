@@ -203,23 +203,31 @@ fn ask(command: Command) -> Event {
     }
 }
 
-fn submission(alloc: Global, script: Bytes) -> Event {
+fn submission(alloc: Global, folder: Option<Name>, script: Bytes) -> Event {
     ask(Command::Submit(Submission {
         queue: None,
+        folder,
         job: job(ListOf::new(alloc), ListOf::new(alloc)),
         script,
     }))
 }
 
-// Whether a plan submits its job under the paths of number 12.
-fn has_paths(plan: &Plan) -> bool {
+// Whether a plan submits its job under these paths.
+fn has_paths(plan: &Plan, out: &[u8], err: &[u8]) -> bool {
     match &plan.change {
         Some(Change::Submitted { job, .. }) => {
-            job.out.as_slice() == b"plot.o12".as_slice()
-                && job.err.as_slice() == b"plot.e12".as_slice()
+            job.out.as_slice() == out && job.err.as_slice() == err
         }
         _ => false,
     }
+}
+
+// Whether it does so under the paths of number 12, and under those in the folder `plot`.
+fn places(plan: &Plan) -> [bool; 2] {
+    [
+        has_paths(plan, b"plot.o12", b"plot.e12"),
+        has_paths(plan, b"plot/plot.o12", b"plot/plot.e12"),
+    ]
 }
 
 // Whether the first bytes that a plan stores are the script.
@@ -241,12 +249,13 @@ fn replies(plan: &Plan) -> bool {
     )
 }
 
-fn submitted(plan: &Plan) -> [bool; 3] {
-    [has_paths(plan), stores_script(plan), replies(plan)]
+fn submitted(plan: &Plan) -> [bool; 4] {
+    let [plain, placed] = places(plan);
+    [plain, placed, stores_script(plan), replies(plan)]
 }
 
 // What is seen of the plan of a submission, which takes number 12.
-fn plan_submission(alloc: Global, state: &HostState, event: &mut Event) -> Option<[bool; 3]>
+fn plan_submission(alloc: Global, state: &HostState, event: &mut Event) -> Option<[bool; 4]>
     requires { IsInOrder (content state.now) }
 {
     let plan = step(alloc, state, event);
@@ -257,14 +266,14 @@ fn submit_there(
     alloc: Global,
     state: &mut HostState,
     event: &mut Event,
-) -> Result<Option<[bool; 3]>, Memory>
+) -> Result<Option<[bool; 4]>, Memory>
     requires { content state.old ≡ blank_host 11 }
 {
     fill(alloc, state)?;
     Ok(plan_submission(alloc, state, event))
 }
 
-fn submit(alloc: Global, event: &mut Event) -> Result<Option<[bool; 3]>, Memory> {
+fn submit(alloc: Global, event: &mut Event) -> Result<Option<[bool; 4]>, Memory> {
     let mut state = host(alloc, 11);
     let seen = submit_there(alloc, &mut state, event);
     drop(state);
@@ -272,8 +281,12 @@ fn submit(alloc: Global, event: &mut Event) -> Result<Option<[bool; 3]>, Memory>
 }
 
 // What is seen of a submission with this script.
-fn submit_script(alloc: Global, script: Bytes) -> Result<Option<[bool; 3]>, Memory> {
-    let mut event = submission(alloc, script);
+fn submit_script(
+    alloc: Global,
+    folder: Option<Name>,
+    script: Bytes,
+) -> Result<Option<[bool; 4]>, Memory> {
+    let mut event = submission(alloc, folder, script);
     submit(alloc, &mut event)
 }
 
@@ -281,7 +294,17 @@ fn submit_script(alloc: Global, script: Bytes) -> Result<Option<[bool; 3]>, Memo
 fn request_gets_a_number_and_paths(rt: HostRuntime) -> Result<(), Memory> {
     let alloc = rt.alloc();
     let script = ListOf::of(alloc, b'w')?;
-    assert_eq!(rt; submit_script(alloc, script), Ok(Some([true; 3])));
+    let seen = submit_script(alloc, None, script);
+    assert_eq!(rt; seen, Ok(Some([true, false, true, true])));
+    Ok(())
+}
+
+#[test]
+fn paths_stand_in_the_folder(rt: HostRuntime) -> Result<(), Memory> {
+    let alloc = rt.alloc();
+    let script = ListOf::of(alloc, b'w')?;
+    let seen = submit_script(alloc, Some(plot()), script);
+    assert_eq!(rt; seen, Ok(Some([false, true, true, true])));
     Ok(())
 }
 

@@ -1,16 +1,21 @@
 -- What an option of a submission says is within the limits.
-use Rattle.std.proofs.Common.{◌≡◌, ℕ, ◌-◌, ◌≤◌, Bool, true, false, cond, ◌&&◌, nat_le, List, [], ◌∷◌, ◌++◌, length, take, drop, subst, slice_range, refl, ap}
+use Rattle.std.proofs.Common.{◌≡◌, ℕ, ◌-◌, ◌≤◌, Bool, true, false, cond, ◌&&◌, nat_le, List, [], ◌∷◌, ◌++◌, length, take, drop, not, Ok, subst, slice_range}
+use Rattle.std.proofs.Common.{refl, ap}
 use Rattle.std.proofs.Common.{sym, ◌∙◌, arith, Option, Some, None, unwrap_or, IfOk, codes}
-use Rattle.std.proofs.lemmas.Bool.{and_parts, and_from, leb-true, le-leb, cond-true}
+use Rattle.std.proofs.Common.{true≢false}
+use Rattle.std.proofs.lemmas.Bool.{and_parts, and_from, leb-true, le-leb, cond-true, not_from_false, false_from_ne_true}
 use Rattle.std.proofs.lemmas.Bool.Decides.{nat_tests}
 use Rattle.std.proofs.lemmas.List.{length-drop, length-append, take-append-le, drop-append-le, take-append-drop}
 use Rattle.std.specs.List.{list_all}
 use Rattle.nqs_base.specs.Name.{is_letter}
-use Rattle.nqs_base.proofs.Readings.{found}
-use Rattle.nqs_base.specs.Path.{is_path}
+use Rattle.nqs_base.proofs.Readings.{found, passed}
+use Rattle.nqs_base.specs.Path.{is_parent, is_path}
+use Rattle.nqs_base.specs.Same.{name_exact}
 use Rattle.nqs_types.specs.declared.fault.WordsCause.{WordsCause}
 use Rattle.nqs_types.specs.declared.fault.WordsCause.TheVariants as cause
-use Rattle.nqs_rules.specs.Sane.{is_name_byte, is_sane_name, is_path_or_none}
+use Rattle.nqs_rules.specs.Sane.{is_name_byte, is_sane_name, is_sane_folder, is_path_or_none}
+use Rattle.nqs_rules.specs.Step.{within}
+use Rattle.nqs_rules.proofs.PathsFit.{path_within}
 use Rattle.nqs_rules.proofs.Chains.{chained}
 use Rattle.nqs_rules.proofs.ListFacts.{list_all-weaker}
 use Rattle.nqs_words.specs.Values.{is_name_byte as is_word_byte, begins_as_name, is_name, name_of, number_of, are_digits}
@@ -20,12 +25,13 @@ use Rattle.nqs_words.specs.declared.words.Word.{Word}
 use Rattle.nqs_text.specs.Number.{decimal}
 use Rattle.nqs_qsub.specs.declared.token.Place.{Place}
 use Rattle.nqs_qsub.specs.declared.token.Place.TheVariants.{InCommand, InScript}
+use Rattle.nqs_qsub.specs.declared.token.Stated.{Stated}
 use Rattle.nqs_qsub.specs.declared.options.Options.{Options}
-use Rattle.nqs_qsub.specs.Tokens.{text_of}
+use Rattle.nqs_qsub.specs.Tokens.{fault_at, text_of}
 use Rattle.nqs_qsub.specs.declared.options.Flag.{Flag}
 use Rattle.nqs_qsub.specs.declared.options.Flag.TheVariants as flag
 use Rattle.nqs_qsub.specs.Options.{no_options, marked, given, path_at, valued}
-use Rattle.nqs_qsub.specs.Qsub.{path_text}
+use Rattle.nqs_qsub.specs.Qsub.{fits, path_text}
 
 -- ---- names and numbers
 
@@ -49,6 +55,17 @@ pub name_is_sane : (bytes name : List ℕ) → name_of bytes ≡ Some name → i
 unfolding name_of
 name_is_sane bytes name e = let f = found (is_name bytes) bytes name e in ap is_sane_name (sym f.1) ∙ name_sane bytes f.0
 
+no_parent : (name : List ℕ) → is_name name ≡ true → is_parent name ≡ false
+unfolding is_name
+no_parent name h = false_from_ne_true (is_parent name) (λ e. true≢false (sym h ∙ ap is_name (name_exact name (46 ∷ 46 ∷ []) e)))
+
+pub folder_is_sane : (bytes name : List ℕ) → name_of bytes ≡ Some name → is_sane_folder (Some name) ≡ true
+unfolding name_of
+folder_is_sane bytes name e =
+    let f = found (is_name bytes) bytes name e in
+    and_from (is_sane_name name) (not (is_parent name)) (name_is_sane bytes name e)
+    (not_from_false (is_parent name) (ap is_parent (sym f.1) ∙ no_parent bytes f.0))
+
 pub number_is_between : (low high : ℕ) (bytes : List ℕ) (n : ℕ) → number_of low high bytes ≡ Some n → (nat_le low n ≡ true) × (nat_le n high ≡ true)
 unfolding number_of
 number_is_between low high bytes n e =
@@ -59,7 +76,7 @@ number_is_between low high bytes n e =
 
 -- ---- paths
 
-pub path_right : (bytes : List ℕ) → is_path bytes ≡ true → is_path_or_none bytes ≡ true
+path_right : (bytes : List ℕ) → is_path bytes ≡ true → is_path_or_none bytes ≡ true
 path_right [] h = refl
 path_right (b ∷ bs) h = h
 
@@ -102,20 +119,26 @@ carries_line words script end (InScript word) h =
 
 -- ---- options
 
+-- a path that is stated is one
+abbrev pub StatesPath : List (List ℕ) → List ℕ → Option Stated → Type 0
+StatesPath words script None = Unit {0}
+StatesPath words script (Some path) = is_path (text_of words script path.at) ≡ true
+
 -- what the options say is within the limits
 pub record AreWithin (words : List (List ℕ)) (script : List ℕ) (o : Options) : Type 0 where
   pub name : is_sane_name (unwrap_or o.job_name (codes "STDIN")) ≡ true
   pub priority : nat_le (unwrap_or o.priority 31) 63 ≡ true
-  pub out : is_path_or_none (path_text words script o.out) ≡ true
-  pub error : is_path_or_none (path_text words script o.error) ≡ true
+  pub out : StatesPath words script o.out
+  pub error : StatesPath words script o.error
+  pub folder : is_sane_folder o.folder ≡ true
 
 pub none_sane : (words : List (List ℕ)) (script : List ℕ) → AreWithin words script no_options
-none_sane words script = record { name = refl; priority = refl; out = refl; error = refl }
+none_sane words script = record { name = refl; priority = refl; out = tt; error = tt; folder = refl }
 
 pub marked_sane : (words : List (List ℕ)) (script : List ℕ) (o : Options) (f : Flag) → AreWithin words script o → AreWithin words script (marked o f)
 unfolding marked
-marked_sane words script o flag.Join h = record { name = h.name; priority = h.priority; out = h.out; error = h.error }
-marked_sane words script o flag.NoRerun h = record { name = h.name; priority = h.priority; out = h.out; error = h.error }
+marked_sane words script o flag.Join h = record { name = h.name; priority = h.priority; out = h.out; error = h.error; folder = h.folder }
+marked_sane words script o flag.NoRerun h = record { name = h.name; priority = h.priority; out = h.out; error = h.error; folder = h.folder }
 marked_sane words script o _ h = h
 
 given_sane : {A : Type 0} (P : Options → Type 0) (found : Option A) (why : WordsCause) (set : A → Options) → ((a : A) → found ≡ Some a → P (set a))
@@ -123,32 +146,64 @@ given_sane : {A : Type 0} (P : Options → Type 0) (found : Option A) (why : Wor
 given_sane P (Some a) why set h = h a refl
 given_sane P None why set h = tt
 
-path_sane : (part : List (List ℕ)) (text : List ℕ) (words : List (List ℕ)) (script : List ℕ) (at p : Place) → Carries part text words script
-    → path_at (text_of part text at) at ≡ Some p → is_path_or_none (path_text words script (Some p)) ≡ true
+path_sane : (part : List (List ℕ)) (text : List ℕ) (words : List (List ℕ)) (script : List ℕ) (at p : Stated) → Carries part text words script
+    → path_at (text_of part text at.at) at ≡ Some p → StatesPath words script (Some p)
 path_sane part text words script at p carries e =
-    let f = found (is_path (text_of part text at)) at p e in
-    path_right (text_of words script p) (ap (λ (q : Place). is_path (text_of words script q)) (sym f.1) ∙ carries at f.0)
+    let f = found (is_path (text_of part text at.at)) at p e in
+    ap (λ (q : Stated). is_path (text_of words script q.at)) (sym f.1) ∙ carries at.at f.0
 
-pub valued_sane : (part : List (List ℕ)) (text : List ℕ) (words : List (List ℕ)) (script : List ℕ) (o : Options) (f : Flag) (at : Place)
+pub valued_sane : (part : List (List ℕ)) (text : List ℕ) (words : List (List ℕ)) (script : List ℕ) (o : Options) (f : Flag) (at : Stated)
     → Carries part text words script → AreWithin words script o
-    → IfOk (valued o f (text_of part text at) at) (AreWithin words script)
+    → IfOk (valued o f (text_of part text at.at) at) (AreWithin words script)
 unfolding valued
-valued_sane part text words script o flag.Queue at carries h = given_sane (AreWithin words script) (name_of (text_of part text at)) cause.BadName _
-    (λ q e. record { name = h.name; priority = h.priority; out = h.out; error = h.error })
-valued_sane part text words script o flag.Priority at carries h = given_sane (AreWithin words script) (number_of 0 63 (text_of part text at)) cause.BadNumber _
-    (λ n e. record { name = h.name; priority = (number_is_between 0 63 _ n e).1; out = h.out; error = h.error })
-valued_sane part text words script o flag.JobName at carries h = given_sane (AreWithin words script) (name_of (text_of part text at)) cause.BadName _
-    (λ n e. record { name = name_is_sane _ n e; priority = h.priority; out = h.out; error = h.error })
-valued_sane part text words script o flag.Earliest at carries h = given_sane (AreWithin words script) (moment_of (text_of part text at)) cause.BadMoment _
-    (λ m e. record { name = h.name; priority = h.priority; out = h.out; error = h.error })
-valued_sane part text words script o flag.Out at carries h = given_sane (AreWithin words script) (path_at (text_of part text at) at) cause.BadPath _
-    (λ p e. record { name = h.name; priority = h.priority; out = path_sane part text words script at p carries e; error = h.error })
-valued_sane part text words script o flag.Error at carries h = given_sane (AreWithin words script) (path_at (text_of part text at) at) cause.BadPath _
-    (λ p e. record { name = h.name; priority = h.priority; out = h.out; error = path_sane part text words script at p carries e })
-valued_sane part text words script o flag.Cpu at carries h = given_sane (AreWithin words script) (time_of (text_of part text at)) cause.BadNumber _
-    (λ n e. record { name = h.name; priority = h.priority; out = h.out; error = h.error })
-valued_sane part text words script o flag.Memory at carries h = given_sane (AreWithin words script) (size_of (text_of part text at)) cause.BadNumber _
-    (λ n e. record { name = h.name; priority = h.priority; out = h.out; error = h.error })
-valued_sane part text words script o flag.Forms at carries h = given_sane (AreWithin words script) (name_of (text_of part text at)) cause.BadName _
-    (λ f e. record { name = h.name; priority = h.priority; out = h.out; error = h.error })
+valued_sane part text words script o flag.Queue at carries h = given_sane (AreWithin words script) (name_of (text_of part text at.at)) cause.BadName _
+    (λ q e. record { name = h.name; priority = h.priority; out = h.out; error = h.error; folder = h.folder })
+valued_sane part text words script o flag.Priority at carries h = given_sane (AreWithin words script)
+    (number_of 0 63 (text_of part text at.at)) cause.BadNumber _
+    (λ n e. record { name = h.name; priority = (number_is_between 0 63 _ n e).1; out = h.out; error = h.error; folder = h.folder })
+valued_sane part text words script o flag.JobName at carries h = given_sane (AreWithin words script) (name_of (text_of part text at.at)) cause.BadName _
+    (λ n e. record { name = name_is_sane _ n e; priority = h.priority; out = h.out; error = h.error; folder = h.folder })
+valued_sane part text words script o flag.Earliest at carries h = given_sane (AreWithin words script) (moment_of (text_of part text at.at)) cause.BadMoment _
+    (λ m e. record { name = h.name; priority = h.priority; out = h.out; error = h.error; folder = h.folder })
+valued_sane part text words script o flag.Out at carries h = given_sane (AreWithin words script) (path_at (text_of part text at.at) at) cause.BadPath _
+    (λ p e. record { name = h.name; priority = h.priority; out = path_sane part text words script at p carries e; error = h.error; folder = h.folder })
+valued_sane part text words script o flag.Error at carries h = given_sane (AreWithin words script) (path_at (text_of part text at.at) at) cause.BadPath _
+    (λ p e. record { name = h.name; priority = h.priority; out = h.out; error = path_sane part text words script at p carries e; folder = h.folder })
+valued_sane part text words script o flag.Cpu at carries h = given_sane (AreWithin words script) (time_of (text_of part text at.at)) cause.BadNumber _
+    (λ n e. record { name = h.name; priority = h.priority; out = h.out; error = h.error; folder = h.folder })
+valued_sane part text words script o flag.Memory at carries h = given_sane (AreWithin words script) (size_of (text_of part text at.at)) cause.BadNumber _
+    (λ n e. record { name = h.name; priority = h.priority; out = h.out; error = h.error; folder = h.folder })
+valued_sane part text words script o flag.Forms at carries h = given_sane (AreWithin words script) (name_of (text_of part text at.at)) cause.BadName _
+    (λ f e. record { name = h.name; priority = h.priority; out = h.out; error = h.error; folder = h.folder })
+valued_sane part text words script o flag.Folder at carries h = given_sane (AreWithin words script) (name_of (text_of part text at.at)) cause.BadName _
+    (λ f e. record { name = h.name; priority = h.priority; out = h.out; error = h.error; folder = folder_is_sane _ f e })
 valued_sane part text words script o _ at carries h = h
+
+-- ---- paths in their folder
+
+-- what the options say is within the limits, and the paths are it in their folder
+pub record AreAsked (words : List (List ℕ)) (script : List ℕ) (o : Options) : Type 0 where
+  pub name : is_sane_name (unwrap_or o.job_name (codes "STDIN")) ≡ true
+  pub priority : nat_le (unwrap_or o.priority 31) 63 ≡ true
+  pub out : is_path_or_none (path_text words script o.folder o.out) ≡ true
+  pub error : is_path_or_none (path_text words script o.folder o.error) ≡ true
+  pub folder : is_sane_folder o.folder ≡ true
+
+placed : (words : List (List ℕ)) (script : List ℕ) (folder : Option (List ℕ)) (path : Option Stated) (done : Unit {0}) → is_sane_folder folder ≡ true
+    → StatesPath words script path → fits words script folder path ≡ Ok done → is_path_or_none (path_text words script folder path) ≡ true
+placed words script folder None done sane right fit = refl
+placed words script folder (Some path) done sane right fit =
+    let text = text_of words script path.at in
+    let p = passed (nat_le (length (within folder text)) 255) (fault_at path.line path.number cause.BadPath) tt done fit in
+    path_right (within folder text) (path_within folder text sane right (leb-true (length (within folder text)) 255 p.0))
+
+pub asked : (words : List (List ℕ)) (script : List ℕ) (o : Options) (first second : Unit {0}) → AreWithin words script o
+    → fits words script o.folder o.out ≡ Ok first → fits words script o.folder o.error ≡ Ok second → AreAsked words script o
+asked words script o first second h out error =
+    record {
+      name = h.name;
+      priority = h.priority;
+      out = placed words script o.folder o.out first h.folder h.out out;
+      error = placed words script o.folder o.error second h.folder h.error error;
+      folder = h.folder;
+    }

@@ -6,25 +6,26 @@ use Rattle.std.specs.Option.{option_or}
 use Rattle.nqs_types.specs.declared.event.Command.TheVariants as command
 use Rattle.nqs_types.specs.declared.fault.WordsCause.{WordsCause}
 use Rattle.nqs_types.specs.declared.fault.WordsCause.TheVariants as cause
-use Rattle.nqs_rules.specs.Sane.{is_sane_name, is_path_or_none, is_asked_job, is_short_script, is_sane_command}
+use Rattle.nqs_rules.specs.Sane.{is_sane_name, is_sane_folder, is_path_or_none, is_asked_job, is_asked, is_short_script, is_sane_command}
 use Rattle.nqs_rules.proofs.Chains.{chained}
 use Rattle.nqs_qsub.specs.declared.token.Source.{Source}
 use Rattle.nqs_qsub.specs.declared.token.Source.TheVariants as source
-use Rattle.nqs_qsub.specs.declared.token.Place.{Place}
+use Rattle.nqs_qsub.specs.declared.token.Stated.{Stated}
 use Rattle.nqs_qsub.specs.declared.token.Token.{Token}
 use Rattle.nqs_qsub.specs.declared.options.Flag.{Flag}
 use Rattle.nqs_qsub.specs.declared.options.Options.{Options}
 use Rattle.nqs_qsub.specs.declared.reading.Progress.{Progress}
 use Rattle.nqs_qsub.specs.declared.script.LineKind.{LineKind}
 use Rattle.nqs_qsub.specs.declared.script.LineKind.TheVariants.{Last, Remark, Words}
-use Rattle.nqs_qsub.specs.Tokens.{Read, or_fault, fault_at, located, next_token, text_of}
+use Rattle.nqs_qsub.specs.Tokens.{Read, or_fault, fault_at, located, stated, next_token, text_of}
 use Rattle.nqs_qsub.specs.Options.{flag_of, fresh, takes_value, valued, no_options, with_value, with_flag, one_option, per_token, read_words}
 use Rattle.nqs_qsub.specs.Script.{line_kind, line_end, next_line, line_options, go_on, script_options}
-use Rattle.nqs_qsub.specs.Qsub.{has_error, merged, both_options, qsub_options, path_text, job, submission}
+use Rattle.nqs_qsub.specs.Qsub.{has_error, merged, fits, fitted, both_options, qsub_options, job, submission}
 use Rattle.nqs_language_acts.specs.Acts.{of_words, submitted}
 use Rattle.nqs_language_acts.specs.Laws.{SubmissionsAreSane}
 use Rattle.nqs_language_acts.proofs.Steps.{each_step, next_step, unless}
-use Rattle.nqs_language_acts.proofs.Options.{Carries, carries_command, carries_line, AreWithin, none_sane, marked_sane, valued_sane}
+use Rattle.nqs_language_acts.proofs.Options.{Carries, carries_command, carries_line, StatesPath, AreWithin, none_sane, marked_sane, valued_sane, AreAsked}
+use Rattle.nqs_language_acts.proofs.Options.{asked}
 
 -- ---- words
 
@@ -41,9 +42,10 @@ value_sane : (s : Source) (part : List (List ℕ)) (text : List ℕ) (line n : �
 unfolding with_value
 value_sane s part text line n token o f words script carries h =
     each_step (Progresses words script) (or_fault (next_token s part text token.after) (fault_at line n cause.Missing)) _ (λ value is.
-    next_step (AreWithin words script) (Progresses words script) (located line (n + 1) (valued o f (text_of part text value.at) value.at)) _
-    (located_sane (AreWithin words script) line (n + 1) (valued o f (text_of part text value.at) value.at)
-    (valued_sane part text words script o f value.at carries h)) (λ more sane. sane))
+    next_step (AreWithin words script) (Progresses words script) (located line (n + 1)
+    (valued o f (text_of part text value.at) (stated value.at line (n + 1)))) _
+    (located_sane (AreWithin words script) line (n + 1) (valued o f (text_of part text value.at) (stated value.at line (n + 1)))
+    (valued_sane part text words script o f (stated value.at line (n + 1)) carries h)) (λ more sane. sane))
 
 flag_sane : (t : Bool) (s : Source) (part : List (List ℕ)) (text : List ℕ) (line n : ℕ) (token : Token) (o : Options) (f : Flag) (words : List (List ℕ))
     (script : List ℕ) → Carries part text words script → AreWithin words script o
@@ -87,8 +89,8 @@ unfolding line_options
 line_sane Last words script line place o h = h
 line_sane Remark words script line place o h = h
 line_sane Words words script line place o h =
-    next_step (AreWithin words script) (Lines words script) (read_words 12 source.Script [] (take (line_end script place) script) line 1 (place + 3) o) _
-    (words_sane 12 source.Script [] (take (line_end script place) script) line 1 (place + 3) o words script
+    next_step (AreWithin words script) (Lines words script) (read_words 13 source.Script [] (take (line_end script place) script) line 1 (place + 3) o) _
+    (words_sane 13 source.Script [] (take (line_end script place) script) line 1 (place + 3) o words script
     (carries_line words script (line_end script place)) h) (λ more sane. sane)
 
 go_on_sane : (P : Options → Type 0) (o : Options) (t : Bool) (next : Options → Read Options) → P o → IfOk (next o) P → IfOk (go_on (o, t) next) P
@@ -117,22 +119,30 @@ merged_sane words script c s h k =
     record {
       name = or_sane (λ (n : Option (List ℕ)). is_sane_name (unwrap_or n (codes "STDIN")) ≡ true) c.job_name s.job_name h.name k.name;
       priority = or_sane (λ (n : Option ℕ). nat_le (unwrap_or n 31) 63 ≡ true) c.priority s.priority h.priority k.priority;
-      out = or_sane (λ (p : Option Place). is_path_or_none (path_text words script p) ≡ true) c.out s.out h.out k.out;
+      out = or_sane (StatesPath words script) c.out s.out h.out k.out;
       error = by (has_error c);
+      folder = or_sane (λ (f : Option (List ℕ)). is_sane_folder f ≡ true) c.folder s.folder h.folder k.folder;
     }
   where
-    by : (t : Bool) → is_path_or_none (path_text words script (cond t c.error s.error)) ≡ true
+    by : (t : Bool) → StatesPath words script (cond t c.error s.error)
     by true = h.error
     by false = k.error
 
-both_sane : (words : List (List ℕ)) (script : List ℕ) → IfOk (both_options words script) (AreWithin words script)
+fitted_sane : (words : List (List ℕ)) (script : List ℕ) (o : Options) → AreWithin words script o → IfOk (fitted words script o) (AreAsked words script)
+unfolding fitted
+fitted_sane words script o h =
+    each_step (AreAsked words script) (fits words script o.folder o.out) _ (λ first out.
+    each_step (AreAsked words script) (fits words script o.folder o.error) _ (λ second error.
+    asked words script o first second h out error))
+
+both_sane : (words : List (List ℕ)) (script : List ℕ) → IfOk (both_options words script) (AreAsked words script)
 unfolding both_options
 both_sane words script =
-    next_step (AreWithin words script) (AreWithin words script) (read_words 12 source.Command words [] 0 1 0 no_options) _
-    (words_sane 12 source.Command words [] 0 1 0 no_options words script (carries_command words script) (none_sane words script)) (λ c sane.
-    next_step (AreWithin words script) (AreWithin words script) (script_options (length script) script 1 0 no_options) _
+    next_step (AreWithin words script) (AreAsked words script) (read_words 13 source.Command words [] 0 1 0 no_options) _
+    (words_sane 13 source.Command words [] 0 1 0 no_options words script (carries_command words script) (none_sane words script)) (λ c sane.
+    next_step (AreWithin words script) (AreAsked words script) (script_options (length script) script 1 0 no_options) _
     (script_sane (length script) words script 1 0 no_options (none_sane words script)) (λ s more.
-    merged_sane words script c s sane more))
+    fitted_sane words script (merged c s) (merged_sane words script c s sane more)))
 
 abbrev Submits : List ℕ → List (List ℕ) → List ℕ → Options → Type 0
 Submits user words script o = is_sane_command (command.Submit (submission user words script o)) ≡ true
@@ -143,11 +153,12 @@ options_sane user words script =
     unless (Submits user words script) (nat_lt 32768 (length script)) (fault_at 0 0 cause.ScriptTooLong) (both_options words script) (λ short.
     ok (both_options words script) (both_sane words script) (le-leb (length script) 32768 (ltb-false 32768 (length script) short)))
   where
-    ok : (r : Read Options) → IfOk r (AreWithin words script) → is_short_script script ≡ true → IfOk r (Submits user words script)
+    ok : (r : Read Options) → IfOk r (AreAsked words script) → is_short_script script ≡ true → IfOk r (Submits user words script)
     ok (Ok o) h short =
-        and_from (is_asked_job (job user words script o)) (is_short_script script) (chained (is_sane_name (job user words script o).name)
+        and_from (is_asked (submission user words script o)) (is_short_script script)
+        (and_from (is_asked_job (job user words script o)) (is_sane_folder o.folder) (chained (is_sane_name (job user words script o).name)
         (nat_le (job user words script o).priority 63 ∷ is_path_or_none (job user words script o).out ∷ is_path_or_none (job user words script o).err ∷ [])
-        (h.name, (h.priority, (h.out, (h.error, tt))))) short
+        (h.name, (h.priority, (h.out, (h.error, tt))))) h.folder) short
     ok (Err fault) h short = tt
 
 pub submissions_are_sane : SubmissionsAreSane

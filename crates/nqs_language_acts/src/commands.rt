@@ -67,6 +67,7 @@ pub fn submit_command(alloc: Global, user: &Name, name: &Name) -> Command
     };
     Command::Submit(Submission {
         queue: None,
+        folder: None,
         job,
         script: Bytes::new(alloc),
     })

@@ -1,5 +1,5 @@
 //! Words of qsub and of its script lines: defaults, values, the command's before the script's,
-//! first faults, and a script that is too long.
+//! paths in a folder, first faults, and a script that is too long.
 
 use nqs_base::{Bytes, Memory, Name};
 use nqs_qsub::read_qsub;
@@ -124,7 +124,7 @@ fn takes_the_command_before_the_script(rt: HostRuntime) {
 }
 
 /// Words of a command, their fault, and which of them has it.
-static BAD_WORDS: [(&[u8], WordsCause, u32); 8] = [
+static BAD_WORDS: [(&[u8], WordsCause, u32); 13] = [
     (b"-p 64", WordsCause::BadNumber, 2),
     (b"-x", WordsCause::Unknown, 1),
     (b"-p", WordsCause::Missing, 1),
@@ -133,6 +133,11 @@ static BAD_WORDS: [(&[u8], WordsCause, u32); 8] = [
     (b"-q -p", WordsCause::BadName, 2),
     (b"-a 2001-02", WordsCause::BadMoment, 2),
     (b"-o ../x", WordsCause::BadPath, 2),
+    (b"-do", WordsCause::Missing, 1),
+    (b"-do ann -do ann", WordsCause::Repeated, 3),
+    (b"-do 9x", WordsCause::BadName, 2),
+    (b"-do a/b", WordsCause::BadName, 2),
+    (b"-do ..", WordsCause::BadName, 2),
 ];
 
 #[test]
@@ -171,4 +176,134 @@ fn refuses_a_script_that_is_too_long(rt: HostRuntime) -> Result<(), Fail> {
     let too_long = Some((WordsCause::ScriptTooLong, 0, 0));
     assert_eq!(rt; found, [Ok(None), Ok(too_long)]);
     Ok(())
+}
+
+/// Words of a command, a script behind them, and what the submission has then: the folder, the path
+/// of the output and that of the error output.
+static PLACED: [(&[u8], &[u8], [&[u8]; 3]); 8] = [
+    (b"-do ann", b"", [b"ann", b"", b""]),
+    (b"-do ann -o a/b", b"", [b"ann", b"ann/a/b", b""]),
+    (b"-e b -do ann", b"", [b"ann", b"", b"ann/b"]),
+    (b"-o a -do ann -eo", b"", [b"ann", b"ann/a", b""]),
+    (b"-nr", b"#@$ -do bob -o x", [b"bob", b"bob/x", b""]),
+    (
+        b"-o x",
+        b"#@$ -e y\n#@$ -do bob",
+        [b"bob", b"bob/x", b"bob/y"],
+    ),
+    (
+        b"-do ann",
+        b"#@$ -do bob -o x -e y",
+        [b"ann", b"ann/x", b"ann/y"],
+    ),
+    (b"-o x", b"#@$ -e y", [b"", b"x", b"y"]),
+];
+
+fn is_folder(folder: Option<Name>, bytes: &[u8]) -> bool {
+    match folder {
+        Some(name) => name.as_bytes() == bytes,
+        None => bytes.is_empty(),
+    }
+}
+
+fn is_at(made: &Submission, wanted: &[&[u8]; 3]) -> [bool; 3] {
+    [
+        is_folder(made.folder, wanted[0]),
+        made.job.out.as_slice() == wanted[1],
+        made.job.err.as_slice() == wanted[2],
+    ]
+}
+
+fn placed(alloc: Global, text: &[u8], script: &[u8], wanted: &[&[u8]; 3]) -> Option<[bool; 3]> {
+    match read(alloc, text, script) {
+        Ok(Ok(made)) => Some(is_at(&made, wanted)),
+        Ok(Err(_)) => None,
+        Err(_) => None,
+    }
+}
+
+#[test]
+fn puts_paths_into_the_folder(rt: HostRuntime) {
+    for (text, script, wanted) in &PLACED {
+        assert_eq!(rt; placed(rt.alloc(), text, script, wanted), Some([true; 3]));
+    }
+}
+
+/// Words of a command and a script behind them, in which each `@` stands for so many bytes, and
+/// their fault.
+static LONG: [(&[u8], &[u8], usize, Found); 14] = [
+    (b"-o @", b"", 255, None),
+    (b"-o @", b"", 256, Some((WordsCause::BadPath, 0, 2))),
+    (b"-do ann -o @", b"", 251, None),
+    (b"-do ann -o @", b"", 252, Some((WordsCause::BadPath, 0, 4))),
+    (b"-e @ -do ann", b"", 251, None),
+    (b"-e @ -do ann", b"", 252, Some((WordsCause::BadPath, 0, 2))),
+    (
+        b"-do ann -e @ -o @",
+        b"",
+        252,
+        Some((WordsCause::BadPath, 0, 6)),
+    ),
+    (b"-do ann", b"#\n#@$ -nr -o @", 251, None),
+    (
+        b"-do ann",
+        b"#\n#@$ -nr -o @",
+        252,
+        Some((WordsCause::BadPath, 2, 3)),
+    ),
+    (
+        b"-do ann -e @",
+        b"#@$ -o @",
+        252,
+        Some((WordsCause::BadPath, 1, 2)),
+    ),
+    (
+        b"-o @",
+        b"#@$ -do ann",
+        252,
+        Some((WordsCause::BadPath, 0, 2)),
+    ),
+    (b"-do ann -o x", b"#@$ -o @", 252, None),
+    (
+        b"-do ann -o @ -x",
+        b"",
+        252,
+        Some((WordsCause::Unknown, 0, 5)),
+    ),
+    (
+        b"-do ann -o @",
+        b"#@$ -x",
+        252,
+        Some((WordsCause::Unknown, 1, 1)),
+    ),
+];
+
+// The text, with so many bytes in the place of each `@` behind a space.
+fn filled(alloc: Global, text: &[u8], count: usize) -> Result<Vec<u8>, Memory> {
+    let mut bytes = Vec::new(alloc);
+    let mut last = b'x';
+    for byte in text {
+        if *byte == b'@' && last == b' ' {
+            for _ in 0..count {
+                bytes.push(b'x')?;
+            }
+        } else {
+            bytes.push(*byte)?;
+        }
+        last = *byte;
+    }
+    Ok(bytes)
+}
+
+fn long_fault(alloc: Global, text: &[u8], script: &[u8], count: usize) -> Result<Found, Memory> {
+    let text = filled(alloc, text, count)?;
+    let script = filled(alloc, script, count)?;
+    fault(alloc, &text, &script)
+}
+
+#[test]
+fn looks_at_lengths_in_the_folder(rt: HostRuntime) {
+    for (text, script, count, found) in &LONG {
+        assert_eq!(rt; long_fault(rt.alloc(), text, script, *count), Ok(*found));
+    }
 }

@@ -225,7 +225,8 @@ module _ (s : Plain) (o : IsInOrder s) (x : Request) where
   tick_licence now until k t = absurd t
 
   command_licence : (now : ℕ) (m : Command) (c : Change (List ℕ)) → Obeys now m s c → (k : Kind) → Turns c s x k → LicensesCommand now m s x k
-  command_licence now (command.Submit sub) c f k t = submit_licence now sub f.0 (completed (s.seq + 1) sub.job) sub.script k (subst (λ y. Turns y s x k) f.1 t)
+  command_licence now (command.Submit sub) c f k t = submit_licence now sub f.0 (completed (s.seq + 1) sub.folder sub.job) sub.script k
+      (subst (λ y. Turns y s x k) f.1 t)
   command_licence now (command.Edit e) c f k t = subst (λ y. Turns y s x k) f t
   command_licence now (command.Delete id forced) c f k t = delete_licence now id forced f.row f.found (is_running f.row.state) k
       (subst (λ y. Turns y s x k) f.is t)

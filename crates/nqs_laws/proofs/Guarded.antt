@@ -215,7 +215,7 @@ module _ (states : List Plain) (packets : List Message) (k : IsPaired states pac
 
   obey_guards : (now : ℕ) (c : Command) (ch : Change (List ℕ)) → Obeys now c s ch → IsOne ch → GuardsOf states h s ch
   obey_guards now (command.Submit sub) ch f one = subst (GuardsOf states h s) (sym f.1)
-      (quiet_guards (Submitted f.0 (completed (s.seq + 1) sub.job) sub.script) tt)
+      (quiet_guards (Submitted f.0 (completed (s.seq + 1) sub.folder sub.job) sub.script) tt)
   obey_guards now (command.Edit e) ch f one = subst (GuardsOf states h s) (sym f) (quiet_guards (Edited e) tt)
   obey_guards now (command.Delete id forced) ch f one = subst (GuardsOf states h s) (sym f.is) (by (is_running f.row.state))
     where

@@ -70,7 +70,7 @@ pub record IsDeleted (id : Named) (s : Plain) (ch : Change (List ℕ)) : Type 0 
 
 -- the change that a command makes
 abbrev pub Obeys : ℕ → Command → Plain → Change (List ℕ) → Type 0
-Obeys now (command.Submit sub) s ch = (queue : List ℕ) × (ch ≡ Submitted queue (completed (s.seq + 1) sub.job) sub.script)
+Obeys now (command.Submit sub) s ch = (queue : List ℕ) × (ch ≡ Submitted queue (completed (s.seq + 1) sub.folder sub.job) sub.script)
 Obeys now (command.Edit e) s ch = ch ≡ Edited e
 Obeys now (command.Delete id forced) s ch = IsDeleted id s ch
 Obeys now command.Tick s ch = (until : ℕ) × (ch ≡ HandsSilent until (silent_hands now s))

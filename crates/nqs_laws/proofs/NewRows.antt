@@ -53,7 +53,7 @@ module _ (t : PlainRow → Bool) (h : HostId) (s : Plain) (packets : List Messag
   answered_passes x sent b e a = absurd a
 
   obeyed_passes : (now : ℕ) (c : Command) → Obeys now c s ch → NewPasses t ch s
-  obeyed_passes now (command.Submit sub) o = subst (λ y. NewPasses t y s) (sym o.1) (submitted o.0 (completed (s.seq + 1) sub.job) sub.script o.1)
+  obeyed_passes now (command.Submit sub) o = subst (λ y. NewPasses t y s) (sym o.1) (submitted o.0 (completed (s.seq + 1) sub.folder sub.job) sub.script o.1)
   obeyed_passes now (command.Edit e) o = subst (λ y. NewPasses t y s) (sym o) tt
   obeyed_passes now (command.Delete id forced) o = subst (λ y. NewPasses t y s) (sym o.is) (by (is_running o.row.state))
     where

@@ -560,7 +560,7 @@ module _ (s : Plain) (h : IsInOrder s) where
 
     submit_outputs : (a : Asker) (o : Option (List ℕ)) (sub : _) → MaySubmit may (submit_to a sub s o).change → AreFine (submit_to a sub s o).outputs
     submit_outputs a None sub submits = refl
-    submit_outputs a (Some q) sub submits = and_from (may (next_id s)) true (submits q (completed (s.seq + 1) sub.job) sub.script refl) refl
+    submit_outputs a (Some q) sub submits = and_from (may (next_id s)) true (submits q (completed (s.seq + 1) sub.folder sub.job) sub.script refl) refl
 
     unless_submits : (a : Asker) (o : Result (Unit {0}) Refusal) (done : Stepped (List ℕ)) → MaySubmit may (unless_refused a o done).change
         → (MaySubmit may done.change → AreFine done.outputs) → AreFine (unless_refused a o done).outputs

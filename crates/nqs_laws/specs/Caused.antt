@@ -35,7 +35,7 @@ TakesBack c = (until : ℕ) × (hands : List PeerNumber) × (c ≡ HandsSilent u
 -- a command keeps the job that it submits, deletes or dooms the request of its number, makes its
 -- edit, or ticks; what only asks changes nothing
 abbrev pub IsByCommand : Command → Change (List ℕ) → Type 0
-IsByCommand (command.Submit sub) c = (queue : List ℕ) × (seq : ℕ) × (c ≡ Submitted queue (completed seq sub.job) sub.script)
+IsByCommand (command.Submit sub) c = (queue : List ℕ) × (seq : ℕ) × (c ≡ Submitted queue (completed seq sub.folder sub.job) sub.script)
 IsByCommand (command.Delete id forced) c = (x : RequestId) × (x.seq ≡ id.seq) × ((c ≡ Deleted x) ⊎ (c ≡ Doomed x))
 IsByCommand (command.Edit e) c = c ≡ Edited e
 IsByCommand command.Tick c = TakesBack c

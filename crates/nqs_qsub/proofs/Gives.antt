@@ -9,7 +9,7 @@ use Rattle.nqs_qsub.specs.declared.token.Token.{Token}
 use Rattle.nqs_qsub.specs.declared.options.Flag.{Flag}
 use Rattle.nqs_qsub.specs.declared.options.Options.{Options}
 use Rattle.nqs_qsub.specs.declared.reading.Progress.{Progress}
-use Rattle.nqs_qsub.specs.Tokens.{Read, ◌>>=◌, or_fault, fault_at, located, next_token, text_of}
+use Rattle.nqs_qsub.specs.Tokens.{Read, ◌>>=◌, or_fault, fault_at, located, stated, next_token, text_of}
 use Rattle.nqs_qsub.specs.Options.{flag_of, is_given, is_both, fresh, takes_value, marked, valued, with_value, with_flag, one_option}
 use Rattle.nqs_qsub.specs.Says.{MayStand, GivesMark, GivesValue}
 use Rattle.nqs_qsub.specs.Faults.{NoValue, Misgiven}
@@ -30,20 +30,21 @@ reads-located {A} line n (Err why) = (
 reads-value : (source : Source) (words : List (List ℕ)) (text : List ℕ) (line n : ℕ) (token : Token) (o : Options) (f : Flag)
     → Reads (with_value source words text line n token o f)
     (λ (p : Progress). (value : Token) × (next_token source words text token.after ≡ Some value)
-    × ((more : Options) × (valued o f (text_of words text value.at) value.at ≡ Ok more)
+    × ((more : Options) × (valued o f (text_of words text value.at) (stated value.at line (n + 1)) ≡ Ok more)
     × (p ≡ record { options = more; number = n + 2; place = value.after })))
     (NoValue source words text line n token o f)
 unfolding with_value
 reads-value source words text line n token o f =
     reads-bind (or_fault (next_token source words text token.after) (fault_at line n cause.Missing))
-    (λ (value : Token). located line (n + 1) (valued o f (text_of words text value.at) value.at) >>= (λ more. Ok (made value more)))
+    (λ (value : Token). located line (n + 1) (valued o f (text_of words text value.at) (stated value.at line (n + 1))) >>= (λ more. Ok (made value more)))
     (λ (value : Token). next_token source words text token.after ≡ Some value)
     (λ (x : WordsFault). (next_token source words text token.after ≡ None) × (x ≡ fault_at line n cause.Missing)) _ _
     (reads-or_fault (next_token source words text token.after) (fault_at line n cause.Missing))
-    (λ (value : Token). reads-map (located line (n + 1) (valued o f (text_of words text value.at) value.at)) (made value)
-    (λ (more : Options). valued o f (text_of words text value.at) value.at ≡ Ok more)
-    (λ (x : WordsFault). (why : WordsCause) × (valued o f (text_of words text value.at) value.at ≡ Err why) × (x ≡ fault_at line (n + 1) why))
-    (reads-located line (n + 1) (valued o f (text_of words text value.at) value.at)))
+    (λ (value : Token). reads-map (located line (n + 1) (valued o f (text_of words text value.at) (stated value.at line (n + 1)))) (made value)
+    (λ (more : Options). valued o f (text_of words text value.at) (stated value.at line (n + 1)) ≡ Ok more)
+    (λ (x : WordsFault). (why : WordsCause) × (valued o f (text_of words text value.at) (stated value.at line (n + 1)) ≡ Err why)
+    × (x ≡ fault_at line (n + 1) why))
+    (reads-located line (n + 1) (valued o f (text_of words text value.at) (stated value.at line (n + 1)))))
   where
     made : Token → Options → Progress
     made value more = record { options = more; number = n + 2; place = value.after }
@@ -53,7 +54,7 @@ reads-flag : (t : Bool) (source : Source) (words : List (List ℕ)) (text : List
     → Reads (with_flag t source words text line n token o f)
     (λ (p : Progress). ((t ≡ false) × (p ≡ record { options = marked o f; number = n + 1; place = token.after }))
     ⊎ ((t ≡ true) × ((value : Token) × (next_token source words text token.after ≡ Some value)
-    × ((more : Options) × (valued o f (text_of words text value.at) value.at ≡ Ok more)
+    × ((more : Options) × (valued o f (text_of words text value.at) (stated value.at line (n + 1)) ≡ Ok more)
     × (p ≡ record { options = more; number = n + 2; place = value.after })))))
     (λ (x : WordsFault). (t ≡ true) × NoValue source words text line n token o f x)
 reads-flag true source words text line n token o f = (
@@ -64,7 +65,7 @@ reads-flag true source words text line n token o f = (
     from : (p : Progress)
         → ((true ≡ false) × (p ≡ record { options = marked o f; number = n + 1; place = token.after }))
         ⊎ ((true ≡ true) × ((value : Token) × (next_token source words text token.after ≡ Some value)
-        × ((more : Options) × (valued o f (text_of words text value.at) value.at ≡ Ok more)
+        × ((more : Options) × (valued o f (text_of words text value.at) (stated value.at line (n + 1)) ≡ Ok more)
         × (p ≡ record { options = more; number = n + 2; place = value.after }))))
         → with_value source words text line n token o f ≡ Ok p
     from p (inl h) = let no = h.0 in cc
@@ -80,7 +81,7 @@ reads-flag false source words text line n token o f = (
     from : (p : Progress)
         → ((false ≡ false) × (p ≡ record { options = marked o f; number = n + 1; place = token.after }))
         ⊎ ((false ≡ true) × ((value : Token) × (next_token source words text token.after ≡ Some value)
-        × ((more : Options) × (valued o f (text_of words text value.at) value.at ≡ Ok more)
+        × ((more : Options) × (valued o f (text_of words text value.at) (stated value.at line (n + 1)) ≡ Ok more)
         × (p ≡ record { options = more; number = n + 2; place = value.after }))))
         → ◌≡◌ {A = Read Progress} (Ok (record { options = marked o f; number = n + 1; place = token.after })) (Ok p)
     from p (inl h) = ap (λ (q : Progress). Ok q) (sym h.1)
@@ -126,9 +127,9 @@ reads-fresh {B} false false line n r P F h = (
     from x (inr (inr t)) = (h.1 x).1 t.1
 
 -- what an option's word gives, behind the words before it
-abbrev pub OptionGives : Source → List (List ℕ) → List ℕ → ℕ → Token → Options → Progress → Type 0
-OptionGives source words text n token o p = (f : Flag) × (flag_of (text_of words text token.at) ≡ Some f)
-    × (MayStand o f × (GivesMark n token o f p ⊎ GivesValue source words text n token o f p))
+abbrev pub OptionGives : Source → List (List ℕ) → List ℕ → ℕ → ℕ → Token → Options → Progress → Type 0
+OptionGives source words text line n token o p = (f : Flag) × (flag_of (text_of words text token.at) ≡ Some f)
+    × (MayStand o f × (GivesMark n token o f p ⊎ GivesValue source words text line n token o f p))
 
 abbrev pub OptionFails : Source → List (List ℕ) → List ℕ → ℕ → ℕ → Token → Options → WordsFault → Type 0
 OptionFails source words text line n token o x =
@@ -136,17 +137,17 @@ OptionFails source words text line n token o x =
     ⊎ ((f : Flag) × (flag_of (text_of words text token.at) ≡ Some f) × Misgiven source words text line n token o f x)
 
 pub reads-option : (source : Source) (words : List (List ℕ)) (text : List ℕ) (line n : ℕ) (token : Token) (o : Options)
-    → Reads (one_option source words text line n token o) (OptionGives source words text n token o) (OptionFails source words text line n token o)
+    → Reads (one_option source words text line n token o) (OptionGives source words text line n token o) (OptionFails source words text line n token o)
 unfolding one_option fresh
 reads-option source words text line n token o =
     reads-bind (or_fault (flag_of (text_of words text token.at)) (fault_at line n cause.Unknown))
     (λ (f : Flag). located line n (fresh o f) >>= (λ first. with_flag (takes_value f) source words text line n token o f))
     (λ (f : Flag). flag_of (text_of words text token.at) ≡ Some f) (λ (x : WordsFault). (flag_of (text_of words text token.at) ≡ None)
     × (x ≡ fault_at line n cause.Unknown))
-    (λ (f : Flag) (p : Progress). MayStand o f × (GivesMark n token o f p ⊎ GivesValue source words text n token o f p))
+    (λ (f : Flag) (p : Progress). MayStand o f × (GivesMark n token o f p ⊎ GivesValue source words text line n token o f p))
     (Misgiven source words text line n token o)
     (reads-or_fault (flag_of (text_of words text token.at)) (fault_at line n cause.Unknown))
     (λ (f : Flag). reads-fresh (is_given o f) (is_both o f) line n (with_flag (takes_value f) source words text line n token o f)
-    (λ (p : Progress). GivesMark n token o f p ⊎ GivesValue source words text n token o f p)
+    (λ (p : Progress). GivesMark n token o f p ⊎ GivesValue source words text line n token o f p)
     (λ (x : WordsFault). (takes_value f ≡ true) × NoValue source words text line n token o f x)
     (reads-flag (takes_value f) source words text line n token o f))

@@ -2,3 +2,4 @@ pub mod Lines
 pub mod Gives
 pub mod Words
 pub mod Said
+pub mod Placed

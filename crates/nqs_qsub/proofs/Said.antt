@@ -1,10 +1,10 @@
 -- Lines of a script one behind another, and submissions whole.
 use Rattle.std.proofs.Common.{◌≡◌, ◌⊎◌, inl, inr, ℕ, zero, suc, ◌+◌, ◌<◌, ◌≤◌, List, [], ◌∷◌, length, take, drop, Ok, Err, Result, Bool, true, false, cond}
-use Rattle.std.proofs.Common.{nat_lt, refl, ap, sym, ◌∙◌, arith}
+use Rattle.std.proofs.Common.{nat_lt, nat_le, Option, Some, None, refl, ap, sym, ◌∙◌, arith}
 use Rattle.std.proofs.lemmas.Bool.Decides.{nat_tests}
 use Rattle.std.proofs.lemmas.List.{drop_all}
-use Rattle.std.proofs.lemmas.Bool.{ltb-true, ltb-false}
-use Rattle.nqs_base.proofs.Readings.{Reads, bound, failed, reads-bind, reads-map}
+use Rattle.std.proofs.lemmas.Bool.{ltb-true, ltb-false, leb-true, leb-false}
+use Rattle.nqs_base.proofs.Readings.{Reads, refused, bound, failed, reads-bind, reads-map}
 use Rattle.nqs_base.proofs.Plain.{no_two}
 use Rattle.nqs_types.specs.declared.fault.WordsFault.{WordsFault}
 use Rattle.nqs_types.specs.declared.fault.WordsCause.TheVariants as cause
@@ -13,12 +13,14 @@ use Rattle.nqs_qsub.specs.declared.token.Source.TheVariants.{Command, Script}
 use Rattle.nqs_qsub.specs.declared.options.Options.{Options}
 use Rattle.nqs_qsub.specs.declared.script.LineKind.{LineKind}
 use Rattle.nqs_qsub.specs.declared.script.LineKind.TheVariants.{Last, Remark, Words}
-use Rattle.nqs_qsub.specs.Tokens.{Read, ◌>>=◌, fault_at}
+use Rattle.nqs_rules.specs.Step.{within}
+use Rattle.nqs_qsub.specs.declared.token.Stated.{Stated}
+use Rattle.nqs_qsub.specs.Tokens.{Read, ◌>>=◌, fault_at, text_of}
 use Rattle.nqs_qsub.specs.Options.{read_words, no_options}
 use Rattle.nqs_qsub.specs.Script.{line_kind, line_end, next_line, line_options, go_on, script_options}
-use Rattle.nqs_qsub.specs.Qsub.{merged, both_options, qsub_options, ReadsQsub}
-use Rattle.nqs_qsub.specs.Says.{WordsGive, LineGives, GiveLines, ScriptGives, Says}
-use Rattle.nqs_qsub.specs.Faults.{WordsFail, FaultsBelow, ScriptFails, Faults}
+use Rattle.nqs_qsub.specs.Qsub.{merged, fits, fitted, both_options, qsub_options, ReadsQsub}
+use Rattle.nqs_qsub.specs.Says.{WordsGive, LineGives, GiveLines, ScriptGives, PathFits, PathsFit, Says}
+use Rattle.nqs_qsub.specs.Faults.{WordsFail, FaultsBelow, ScriptFails, PathFails, PathsFail, Faults}
 use Rattle.nqs_qsub.specs.Law.{ReadsWhatIsSaid, FindsTheFault, SaysOrFaults, NeverBoth, OneFault, Answers}
 use Rattle.nqs_qsub.proofs.Words.{reads-words}
 
@@ -54,18 +56,14 @@ abbrev Line : LineKind → (Options → Read Options) → List ℕ → ℕ → �
 Line k g script line place o = line_options k script line place o >>= (λ (step : Options × Bool). go_on step g)
 
 abbrev OfLine : List ℕ → ℕ → ℕ → Options → Read Options
-OfLine script line place o = read_words 12 Script [] (take (line_end script place) script) line 1 (place + 3) o
-
--- what such a line gives, and what it fails with
-abbrev GivesOf : List ℕ → ℕ → Options → Options → Type 0
-GivesOf script place o more = WordsGive Script [] (take (line_end script place) script) (place + 3) o more
+OfLine script line place o = read_words 13 Script [] (take (line_end script place) script) line 1 (place + 3) o
 
 of_words : (script : List ℕ) (line place : ℕ) (o : Options) (g : Options → Read Options) → Line Words g script line place o ≡ (OfLine script line place o >>= g)
 unfolding line_options
 of_words script line place o g = goes (OfLine script line place o) g
 
 lines-Ok : (m : ℕ) (script : List ℕ) (line place : ℕ) (o all : Options) → length script ≤ m + place → script_options m script line place o ≡ Ok all
-    → (lines : List Options) × GiveLines script place o lines all
+    → (lines : List Options) × GiveLines script line place o lines all
 unfolding script_options line_options
 lines-Ok zero script line place o all past e = ([], (at_end script place (omega arith), cc))
 lines-Ok (suc m) script line place o all past e = by (lines-Ok m script (line + 1) (next_line script place)) (line_kind (drop place script)) refl e
@@ -74,9 +72,9 @@ lines-Ok (suc m) script line place o all past e = by (lines-Ok m script (line + 
     next = script_options m script (line + 1) (next_line script place)
 
     by : ((o all : Options) → length script ≤ m + next_line script place → script_options m script (line + 1) (next_line script place) o ≡ Ok all
-        → (lines : List Options) × GiveLines script (next_line script place) o lines all)
+        → (lines : List Options) × GiveLines script (line + 1) (next_line script place) o lines all)
         → (k : LineKind) → line_kind (drop place script) ≡ k → Line k (script_options m script (line + 1) (next_line script place)) script line place o ≡ Ok all
-        → (lines : List Options) × GiveLines script place o lines all
+        → (lines : List Options) × GiveLines script line place o lines all
     by others Last is h = ([], (is, cc))
     by others Remark is h =
         let less = further script place (inside script place Remark is (λ no. cc)) in
@@ -117,35 +115,35 @@ lines-Err (suc m) script line place o x e = by (lines-Err m script (line + 1) (n
         (sym (of_words script line place o (script_options m script (line + 1) (next_line script place))) ∙ h))
 
 -- one line more
-first_line : (m : ℕ) (script : List ℕ) (line place : ℕ) (o more : Options) → LineGives script place o more
+first_line : (m : ℕ) (script : List ℕ) (line place : ℕ) (o more : Options) → LineGives script line place o more
     → script_options (suc m) script line place o ≡ script_options m script (line + 1) (next_line script place) more
 unfolding script_options line_options
 first_line m script line place o more (inl h) = rw h.0 (ap (script_options m script (line + 1) (next_line script place)) (sym h.1))
 first_line m script line place o more (inr h) =
     rw (h.0, ((reads-words Script [] (take (line_end script place) script) line (place + 3) o).0 more).1 h.1) refl
 
-begins_inside : (script : List ℕ) (place : ℕ) (o more : Options) → LineGives script place o more → place < length script
-begins_inside script place o more (inl h) = inside script place Remark h.0 (λ no. cc)
-begins_inside script place o more (inr h) = inside script place Words h.0 (λ no. cc)
+begins_inside : (script : List ℕ) (line place : ℕ) (o more : Options) → LineGives script line place o more → place < length script
+begins_inside script line place o more (inl h) = inside script place Remark h.0 (λ no. cc)
+begins_inside script line place o more (inr h) = inside script place Words h.0 (λ no. cc)
 
 lines-give : (m : ℕ) (script : List ℕ) (line place : ℕ) (o all : Options) (lines : List Options) → length script ≤ m + place
-    → GiveLines script place o lines all → script_options m script line place o ≡ Ok all
+    → GiveLines script line place o lines all → script_options m script line place o ≡ Ok all
 unfolding script_options line_options
 lines-give zero script line place o all [] past h = ap (λ (x : Options). Ok x) (sym h.1)
-lines-give zero script line place o all (more ∷ lines) past h = let no = begins_inside script place o more h.0 in absurd (omega arith)
+lines-give zero script line place o all (more ∷ lines) past h = let no = begins_inside script line place o more h.0 in absurd (omega arith)
 lines-give (suc m) script line place o all [] past h = rw h.0 (ap (λ (x : Options). Ok x) (sym h.1))
 lines-give (suc m) script line place o all (more ∷ lines) past h =
-    let less = further script place (begins_inside script place o more h.0) in
+    let less = further script place (begins_inside script line place o more h.0) in
     first_line m script line place o more h.0 ∙ lines-give m script (line + 1) (next_line script place) more all lines (omega arith) h.1
 
 lines-fail : (m : ℕ) (script : List ℕ) (line place : ℕ) (o : Options) (lines : List Options) (x : WordsFault) → length script ≤ m + place
     → FaultsBelow script line place o lines x → script_options m script line place o ≡ Err x
 unfolding script_options line_options
 lines-fail zero script line place o [] x past h = let no = inside script place Words h.0 (λ no. cc) in absurd (omega arith)
-lines-fail zero script line place o (more ∷ lines) x past h = let no = begins_inside script place o more h.0 in absurd (omega arith)
+lines-fail zero script line place o (more ∷ lines) x past h = let no = begins_inside script line place o more h.0 in absurd (omega arith)
 lines-fail (suc m) script line place o [] x past h = rw (h.0, ((reads-words Script [] (take (line_end script place) script) line (place + 3) o).1 x).1 h.1) refl
 lines-fail (suc m) script line place o (more ∷ lines) x past h =
-    let less = further script place (begins_inside script place o more h.0) in
+    let less = further script place (begins_inside script line place o more h.0) in
     first_line m script line place o more h.0 ∙ lines-fail m script (line + 1) (next_line script place) more lines x (omega arith) h.1
 
 reads-script : (script : List ℕ) → Reads (script_options (length script) script 1 0 no_options) (ScriptGives script) (ScriptFails script)
@@ -159,20 +157,86 @@ reads-script script = (
 
 -- ---- submissions
 
+-- a path that is tried by its length
+abbrev Tried : Bool → WordsFault → Read (Unit {0})
+Tried t x = cond t (Ok tt) (Err x)
+
+reads-tried : (n : ℕ) (x : WordsFault) → Reads (Tried (nat_le n 255) x) (λ (u : Unit {0}). n ≤ 255) (λ (y : WordsFault). (255 < n) × (y ≡ x))
+reads-tried n x = by (nat_le n 255) refl
+  where
+    by : (t : Bool) → nat_le n 255 ≡ t → Reads (Tried t x) (λ (u : Unit {0}). n ≤ 255) (λ (y : WordsFault). (255 < n) × (y ≡ x))
+    by true e = (
+      (λ u. ((λ h. leb-true n 255 e), (λ h. refl))),
+      (λ y. ((λ h. cc), (λ h. no_two 255 n h.0 (leb-true n 255 e)))),
+    )
+    by false e = (
+      (λ u. ((λ h. cc), (λ h. no_two 255 n (leb-false n 255 e) h))),
+      (λ y. ((λ h. (leb-false n 255 e, refused {A = Unit {0}} x y h)), (λ h. ap (λ (z : WordsFault). Err z) (sym h.1)))),
+    )
+
+reads-fits : (words : List (List ℕ)) (script : List ℕ) (folder : Option (List ℕ)) (path : Option Stated)
+    → Reads (fits words script folder path) (λ (u : Unit {0}). PathFits words script folder path) (PathFails words script folder path)
+reads-fits words script folder None = ((λ u. ((λ h. tt), (λ h. refl))), (λ x. ((λ h. cc), (λ h. absurd h))))
+reads-fits words script folder (Some path) =
+    reads-tried (length (within folder (text_of words script path.at))) (fault_at path.line path.number cause.BadPath)
+
+reads-fitted : (words : List (List ℕ)) (script : List ℕ) (o : Options)
+    → Reads (fitted words script o) (λ (all : Options). PathsFit words script o × (all ≡ o)) (PathsFail words script o)
+unfolding fitted
+reads-fitted words script o = (
+  (λ all. (
+    (λ e. let t = (both.0 all).0 e in ((t.1, t.2.1), t.2.2)),
+    (λ h. (both.0 all).1 (tt, h.0.0, (tt, h.0.1, h.1))),
+  )),
+  (λ x. ((λ e. to x ((both.1 x).0 e)), (λ h. (both.1 x).1 (from x h)))),
+)
+  where
+    both : Reads (fitted words script o)
+        (λ (all : Options). (u : Unit {0}) × PathFits words script o.folder o.out × ((v : Unit {0}) × PathFits words script o.folder o.error × (all ≡ o)))
+        (λ (x : WordsFault). PathFails words script o.folder o.out x ⊎ ((u : Unit {0}) × PathFits words script o.folder o.out
+        × PathFails words script o.folder o.error x))
+    both =
+        reads-bind (fits words script o.folder o.out) (λ (u : Unit {0}). fits words script o.folder o.error >>= (λ (v : Unit {0}). Ok o))
+        (λ (u : Unit {0}). PathFits words script o.folder o.out) (PathFails words script o.folder o.out)
+        (λ (u : Unit {0}) (all : Options). (v : Unit {0}) × PathFits words script o.folder o.error × (all ≡ o))
+        (λ (u : Unit {0}). PathFails words script o.folder o.error)
+        (reads-fits words script o.folder o.out)
+        (λ (u : Unit {0}). reads-map (fits words script o.folder o.error) (λ (v : Unit {0}). o) (λ (v : Unit {0}). PathFits words script o.folder o.error)
+        (PathFails words script o.folder o.error)
+        (reads-fits words script o.folder o.error))
+
+    to : (x : WordsFault)
+        → PathFails words script o.folder o.out x ⊎ ((u : Unit {0}) × PathFits words script o.folder o.out × PathFails words script o.folder o.error x)
+        → PathsFail words script o x
+    to x (inl h) = inl h
+    to x (inr h) = inr (h.1, h.2)
+
+    from : (x : WordsFault) → PathsFail words script o x
+        → PathFails words script o.folder o.out x ⊎ ((u : Unit {0}) × PathFits words script o.folder o.out × PathFails words script o.folder o.error x)
+    from x (inl h) = inl h
+    from x (inr h) = inr (tt, h.0, h.1)
+
 reads-both : (words : List (List ℕ)) (script : List ℕ)
-    → Reads (both_options words script) (λ (o : Options). (command : Options) × WordsGive Command words [] 0 no_options command
-    × ((scripted : Options) × ScriptGives script scripted × (o ≡ merged command scripted)))
-    (λ (x : WordsFault). WordsFail Command words [] 0 0 no_options x ⊎ ((command : Options) × WordsGive Command words [] 0 no_options command
-    × ScriptFails script x))
+    → Reads (both_options words script) (λ (o : Options). (command : Options) × WordsGive Command words [] 0 0 no_options command
+    × ((scripted : Options) × ScriptGives script scripted × (PathsFit words script (merged command scripted) × (o ≡ merged command scripted))))
+    (λ (x : WordsFault). WordsFail Command words [] 0 0 no_options x ⊎ ((command : Options) × WordsGive Command words [] 0 0 no_options command
+    × (ScriptFails script x ⊎ ((scripted : Options) × ScriptGives script scripted × PathsFail words script (merged command scripted) x))))
 unfolding both_options
 reads-both words script =
-    reads-bind (read_words 12 Command words [] 0 1 0 no_options) (λ (command : Options). script_options (length script) script 1 0 no_options >>=
-    (λ scripted. Ok (merged command scripted)))
-    (WordsGive Command words [] 0 no_options) (WordsFail Command words [] 0 0 no_options)
-    (λ (command o : Options). (scripted : Options) × ScriptGives script scripted × (o ≡ merged command scripted)) (λ (command : Options). ScriptFails script)
+    reads-bind (read_words 13 Command words [] 0 1 0 no_options) (λ (command : Options). script_options (length script) script 1 0 no_options >>=
+    (λ scripted. fitted words script (merged command scripted)))
+    (WordsGive Command words [] 0 0 no_options) (WordsFail Command words [] 0 0 no_options)
+    (λ (command o : Options). (scripted : Options) × ScriptGives script scripted
+    × (PathsFit words script (merged command scripted) × (o ≡ merged command scripted)))
+    (λ (command : Options) (x : WordsFault). ScriptFails script x ⊎ ((scripted : Options) × ScriptGives script scripted
+    × PathsFail words script (merged command scripted) x))
     (reads-words Command words [] 0 0 no_options)
-    (λ (command : Options). reads-map (script_options (length script) script 1 0 no_options) (merged command) (ScriptGives script) (ScriptFails script)
-    (reads-script script))
+    (λ (command : Options). reads-bind (script_options (length script) script 1 0 no_options)
+    (λ (scripted : Options). fitted words script (merged command scripted)) (ScriptGives script) (ScriptFails script)
+    (λ (scripted o : Options). PathsFit words script (merged command scripted) × (o ≡ merged command scripted))
+    (λ (scripted : Options). PathsFail words script (merged command scripted))
+    (reads-script script)
+    (λ (scripted : Options). reads-fitted words script (merged command scripted)))
 
 reads : (words : List (List ℕ)) (script : List ℕ) → Reads (qsub_options words script) (Says words script) (Faults words script)
 unfolding qsub_options

@@ -1,4 +1,4 @@
--- Options one behind another: at most eleven, as each may stand once.
+-- Options one behind another: at most twelve, as each may stand once.
 use Rattle.std.proofs.Common.{◌≡◌, ◌⊎◌, inl, inr, ℕ, zero, suc, ◌+◌, ◌<◌, List, [], ◌∷◌, Some, None, Option, Ok, Err, true, false, is_some, refl, ap}
 use Rattle.std.proofs.Common.{sym, ◌∙◌, arith}
 use Rattle.nqs_base.proofs.Readings.{Reads, bound, failed}
@@ -10,13 +10,13 @@ use Rattle.nqs_words.specs.Amounts.{time_of, size_of}
 use Rattle.nqs_words.specs.Moments.{moment_of}
 use Rattle.nqs_words.proofs.Missing.{missing, missing_one, at_most_one}
 use Rattle.nqs_qsub.specs.declared.token.Source.{Source}
-use Rattle.nqs_qsub.specs.declared.token.Place.{Place}
+use Rattle.nqs_qsub.specs.declared.token.Stated.{Stated}
 use Rattle.nqs_qsub.specs.declared.token.Token.{Token}
 use Rattle.nqs_qsub.specs.declared.options.Flag.{Flag}
 use Rattle.nqs_qsub.specs.declared.options.Flag.TheVariants as flag
 use Rattle.nqs_qsub.specs.declared.options.Options.{Options}
 use Rattle.nqs_qsub.specs.declared.reading.Progress.{Progress}
-use Rattle.nqs_qsub.specs.Tokens.{Read, ◌>>=◌, next_token, text_of}
+use Rattle.nqs_qsub.specs.Tokens.{Read, ◌>>=◌, stated, next_token, text_of}
 use Rattle.nqs_qsub.specs.Options.{is_given, takes_value, marked, given, path_at, valued, one_option, per_token, read_words}
 use Rattle.nqs_qsub.specs.Says.{GivesMark, GivesValue, GivesOption, GiveOptions, WordsGive}
 use Rattle.nqs_qsub.specs.Faults.{FaultsBehind, WordsFail}
@@ -29,8 +29,9 @@ left o =
     missing (is_some o.queue) + missing (is_some o.priority) + missing (is_some o.job_name) + missing (is_some o.earliest) + missing (is_some o.out)
     + missing (is_some o.error)
     + missing o.join + missing o.no_rerun + missing (is_some o.cpu) + missing (is_some o.memory) + missing (is_some o.forms)
+    + missing (is_some o.folder)
 
-pub few : (o : Options) → left o < 12
+pub few : (o : Options) → left o < 13
 few o =
     let a = at_most_one (is_some o.queue) in
     let b = at_most_one (is_some o.priority) in
@@ -43,6 +44,7 @@ few o =
     let i = at_most_one (is_some o.cpu) in
     let j = at_most_one (is_some o.memory) in
     let k = at_most_one (is_some o.forms) in
+    let l = at_most_one (is_some o.folder) in
     omega arith
 
 given-Ok : {A : Type 0} (v : Option A) (why : WordsCause) (set : A → Options) (more : Options) → given v why set ≡ Ok more → (a : A) × (more ≡ set a)
@@ -55,7 +57,7 @@ marked-fewer o flag.Join t g = let m = missing_one o.join g in omega arith
 marked-fewer o flag.NoRerun t g = let m = missing_one o.no_rerun g in omega arith
 marked-fewer o _ t g = cc
 
-valued-fewer : (o : Options) (f : Flag) (text : List ℕ) (at : Place) (more : Options) → takes_value f ≡ true → is_given o f ≡ false
+valued-fewer : (o : Options) (f : Flag) (text : List ℕ) (at : Stated) (more : Options) → takes_value f ≡ true → is_given o f ≡ false
     → valued o f text at ≡ Ok more → left more + 1 ≡ left o
 unfolding missing takes_value is_given valued
 valued-fewer o flag.Queue text at more t g e = let v = given-Ok (name_of text) cause.BadName (λ (q : List ℕ). record o { queue = Some q }) more e in
@@ -66,9 +68,9 @@ valued-fewer o flag.JobName text at more t g e = let v = given-Ok (name_of text)
     let l = ap left v.1 in let m = missing_one (is_some o.job_name) g in omega arith
 valued-fewer o flag.Earliest text at more t g e = let v = given-Ok (moment_of text) cause.BadMoment (λ (n : ℕ). record o { earliest = Some n }) more e in
     let l = ap left v.1 in let m = missing_one (is_some o.earliest) g in omega arith
-valued-fewer o flag.Out text at more t g e = let v = given-Ok (path_at text at) cause.BadPath (λ (p : Place). record o { out = Some p }) more e in
+valued-fewer o flag.Out text at more t g e = let v = given-Ok (path_at text at) cause.BadPath (λ (p : Stated). record o { out = Some p }) more e in
     let l = ap left v.1 in let m = missing_one (is_some o.out) g in omega arith
-valued-fewer o flag.Error text at more t g e = let v = given-Ok (path_at text at) cause.BadPath (λ (p : Place). record o { error = Some p }) more e in
+valued-fewer o flag.Error text at more t g e = let v = given-Ok (path_at text at) cause.BadPath (λ (p : Stated). record o { error = Some p }) more e in
     let l = ap left v.1 in let m = missing_one (is_some o.error) g in omega arith
 valued-fewer o flag.Join text at more t g e = cc
 valued-fewer o flag.NoRerun text at more t g e = cc
@@ -78,14 +80,17 @@ valued-fewer o flag.Memory text at more t g e = let v = given-Ok (size_of text) 
     let l = ap left v.1 in let m = missing_one (is_some o.memory) g in omega arith
 valued-fewer o flag.Forms text at more t g e = let v = given-Ok (name_of text) cause.BadName (λ (q : List ℕ). record o { forms = Some q }) more e in
     let l = ap left v.1 in let m = missing_one (is_some o.forms) g in omega arith
+valued-fewer o flag.Folder text at more t g e = let v = given-Ok (name_of text) cause.BadName (λ (q : List ℕ). record o { folder = Some q }) more e in
+    let l = ap left v.1 in let m = missing_one (is_some o.folder) g in omega arith
 
-pub fewer : (source : Source) (words : List (List ℕ)) (text : List ℕ) (n place : ℕ) (o : Options) (p : Progress) → GivesOption source words text n place o p
-    → left p.options + 1 ≡ left o
-fewer source words text n place o p (token, next, (f, is, (may, gives))) = by gives
+pub fewer : (source : Source) (words : List (List ℕ)) (text : List ℕ) (line n place : ℕ) (o : Options) (p : Progress)
+    → GivesOption source words text line n place o p → left p.options + 1 ≡ left o
+fewer source words text line n place o p (token, next, (f, is, (may, gives))) = by gives
   where
-    by : GivesMark n token o f p ⊎ GivesValue source words text n token o f p → left p.options + 1 ≡ left o
+    by : GivesMark n token o f p ⊎ GivesValue source words text line n token o f p → left p.options + 1 ≡ left o
     by (inl h) = ap (λ (q : Progress). left q.options + 1) h.1 ∙ marked-fewer o f h.0 may.0
-    by (inr h) = ap (λ (q : Progress). left q.options + 1) h.1.2.2 ∙ valued-fewer o f (text_of words text h.1.0.at) h.1.0.at h.1.2.0 h.0 may.0 h.1.2.1
+    by (inr h) = ap (λ (q : Progress). left q.options + 1) h.1.2.2
+        ∙ valued-fewer o f (text_of words text h.1.0.at) (stated h.1.0.at line (n + 1)) h.1.2.0 h.0 may.0 h.1.2.1
 
 -- ---- the words from a place on
 
@@ -94,16 +99,16 @@ abbrev Next : ℕ → Source → List (List ℕ) → List ℕ → ℕ → Progre
 Next left source words text line p = read_words left source words text line p.number p.place p.options
 
 pub words-Ok : (m : ℕ) (source : Source) (words : List (List ℕ)) (text : List ℕ) (line n place : ℕ) (o all : Options)
-    → read_words m source words text line n place o ≡ Ok all → (steps : List Progress) × GiveOptions source words text n place o steps all
+    → read_words m source words text line n place o ≡ Ok all → (steps : List Progress) × GiveOptions source words text line n place o steps all
 unfolding read_words
 words-Ok zero source words text line n place o all e = cc
 words-Ok (suc m) source words text line n place o all e = by (words-Ok m source words text line) (next_token source words text place) refl e
   where
     by : ((n place : ℕ) (o all : Options) → read_words m source words text line n place o ≡ Ok all
-        → (steps : List Progress) × GiveOptions source words text n place o steps all)
+        → (steps : List Progress) × GiveOptions source words text line n place o steps all)
         → (t : Option Token) → next_token source words text place ≡ t → per_token t (Ok o)
         (λ (token : Token). one_option source words text line n token o >>= Next m source words text line) ≡ Ok all
-        → (steps : List Progress) × GiveOptions source words text n place o steps all
+        → (steps : List Progress) × GiveOptions source words text line n place o steps all
     by others None is h = ([], (is, cc))
     by others (Some token) is h =
         let b = bound (one_option source words text line n token o) (Next m source words text line) all h in
@@ -126,7 +131,7 @@ words-Err (suc m) source words text line n place o x less e = by (words-Err m so
     behind others token is (inl e) = ([], (token, is, ((reads-option source words text line n token o).1 x).0 e))
     behind others token is (inr (p, gives, e)) =
         let g = ((reads-option source words text line n token o).0 p).0 gives in
-        let few = fewer source words text n place o p (token, is, g) in
+        let few = fewer source words text line n place o p (token, is, g) in
         let rest = others p.number p.place p.options x (omega arith) e in
         (p ∷ rest.0, ((token, is, g), rest.1))
 
@@ -139,12 +144,12 @@ words-Err (suc m) source words text line n place o x less e = by (words-Err m so
     by others (Some token) is h = behind others token is (failed (one_option source words text line n token o) (Next m source words text line) x h)
 
 words-give : (m : ℕ) (source : Source) (words : List (List ℕ)) (text : List ℕ) (line n place : ℕ) (o all : Options) (steps : List Progress) → left o < m
-    → GiveOptions source words text n place o steps all → read_words m source words text line n place o ≡ Ok all
+    → GiveOptions source words text line n place o steps all → read_words m source words text line n place o ≡ Ok all
 unfolding read_words
 words-give zero source words text line n place o all steps less h = absurd (omega arith)
 words-give (suc m) source words text line n place o all [] less h = rw h.0 (ap (λ (x : Options). Ok x) (sym h.1))
 words-give (suc m) source words text line n place o all (p ∷ steps) less (gives, rest) =
-    let few = fewer source words text n place o p gives in
+    let few = fewer source words text line n place o p gives in
     rw (gives.1, ((reads-option source words text line n gives.0 o).0 p).1 gives.2)
     (words-give m source words text line p.number p.place p.options all steps (omega arith) rest)
 
@@ -154,13 +159,13 @@ unfolding read_words
 words-fail zero source words text line n place o steps x less h = absurd (omega arith)
 words-fail (suc m) source words text line n place o [] x less h = rw (h.1, ((reads-option source words text line n h.0 o).1 x).1 h.2) refl
 words-fail (suc m) source words text line n place o (p ∷ steps) x less (gives, rest) =
-    let few = fewer source words text n place o p gives in
+    let few = fewer source words text line n place o p gives in
     rw (gives.1, ((reads-option source words text line n gives.0 o).0 p).1 gives.2)
     (words-fail m source words text line p.number p.place p.options steps x (omega arith) rest)
 
 pub reads-words : (source : Source) (words : List (List ℕ)) (text : List ℕ) (line place : ℕ) (o : Options)
-    → Reads (read_words 12 source words text line 1 place o) (WordsGive source words text place o) (WordsFail source words text line place o)
+    → Reads (read_words 13 source words text line 1 place o) (WordsGive source words text line place o) (WordsFail source words text line place o)
 reads-words source words text line place o = (
-  (λ all. (words-Ok 12 source words text line 1 place o all, (λ h. words-give 12 source words text line 1 place o all h.0 (few o) h.1))),
-  (λ x. (words-Err 12 source words text line 1 place o x (few o), (λ h. words-fail 12 source words text line 1 place o h.0 x (few o) h.1))),
+  (λ all. (words-Ok 13 source words text line 1 place o all, (λ h. words-give 13 source words text line 1 place o all h.0 (few o) h.1))),
+  (λ x. (words-Err 13 source words text line 1 place o x (few o), (λ h. words-fail 13 source words text line 1 place o h.0 x (few o) h.1))),
 )

@@ -1,9 +1,10 @@
 -- What is read is what the grammar has, and the fault that is answered is the submission's first
 -- one.
-use Rattle.std.specs.Prelude.{◌≡◌, ◌↔◌, ◌⊎◌, ℕ, List, Ok, Err}
+use Rattle.std.specs.Prelude.{◌≡◌, ◌↔◌, ◌⊎◌, ℕ, List, [], ◌∷◌, ◌++◌, codes, Some, Ok, Err}
 use Rattle.std.specs.declared.result.Result.{Result}
 use Rattle.nqs_types.specs.declared.fault.WordsFault.{WordsFault}
 use Rattle.nqs_types.specs.declared.event.Submission.{Submission}
+use Rattle.nqs_words.specs.Values.{name_of}
 use Rattle.nqs_qsub.specs.declared.options.Options.{Options}
 use Rattle.nqs_qsub.specs.Qsub.{qsub_options, submission}
 use Rattle.nqs_qsub.specs.Says.{Says}
@@ -28,6 +29,12 @@ NeverBoth = (words : List (List ℕ)) (script : List ℕ) (o : Options) (fault :
 -- none have two first faults
 abbrev pub OneFault : Type 0
 OneFault = (words : List (List ℕ)) (script : List ℕ) (f g : WordsFault) → Faults words script f → Faults words script g → f ≡ g
+
+-- words that end with the folder's option and a name put the outputs into the folder of that name,
+-- whatever stands before them and in the script
+abbrev pub LastFolderHolds : Type 0
+LastFolderHolds = (own : List (List ℕ)) (name script : List ℕ) (o : Options) → name_of name ≡ Some name
+    → Says (own ++ codes "-do" ∷ name ∷ []) script o → o.folder ≡ Some name
 
 -- the answer to words and a script: the submission that they make, or their first fault
 abbrev pub Answers : List ℕ → List (List ℕ) → List ℕ → Result Submission WordsFault → Type 0

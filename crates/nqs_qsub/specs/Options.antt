@@ -9,13 +9,13 @@ use Rattle.nqs_words.specs.Values.{name_of, number_of}
 use Rattle.nqs_words.specs.Amounts.{time_of, size_of}
 use Rattle.nqs_words.specs.Moments.{moment_of}
 use Rattle.nqs_qsub.specs.declared.token.Source.{Source}
-use Rattle.nqs_qsub.specs.declared.token.Place.{Place}
+use Rattle.nqs_qsub.specs.declared.token.Stated.{Stated}
 use Rattle.nqs_qsub.specs.declared.token.Token.{Token}
 use Rattle.nqs_qsub.specs.declared.options.Flag.{Flag}
 use Rattle.nqs_qsub.specs.declared.options.Flag.TheVariants as flag
 use Rattle.nqs_qsub.specs.declared.options.Options.{Options}
 use Rattle.nqs_qsub.specs.declared.reading.Progress.{Progress}
-use Rattle.nqs_qsub.specs.Tokens.{Read, ◌>>=◌, or_fault, fault_at, located, next_token, text_of}
+use Rattle.nqs_qsub.specs.Tokens.{Read, ◌>>=◌, or_fault, fault_at, located, stated, next_token, text_of}
 
 -- the option that a word names
 unfoldable pub flag_of : List ℕ → Option Flag
@@ -30,7 +30,8 @@ flag_of bytes =
     (if name_eq (codes "-nr") bytes then Some flag.NoRerun else
     (if name_eq (codes "-lT") bytes then Some flag.Cpu else
     (if name_eq (codes "-lM") bytes then Some flag.Memory else
-    (if name_eq (codes "-f") bytes then Some flag.Forms else None))))))))))
+    (if name_eq (codes "-f") bytes then Some flag.Forms else
+    (if name_eq (codes "-do") bytes then Some flag.Folder else None)))))))))))
 
 -- no option was given
 abbrev pub no_options : Options
@@ -48,6 +49,7 @@ no_options =
       memory =
           None;
       forms = None;
+      folder = None;
     }
 
 -- was the option given?
@@ -63,6 +65,7 @@ is_given o flag.NoRerun = o.no_rerun
 is_given o flag.Cpu = is_some o.cpu
 is_given o flag.Memory = is_some o.memory
 is_given o flag.Forms = is_some o.forms
+is_given o flag.Folder = is_some o.folder
 
 -- is it one of `-e` and `-eo`, and the other was given?
 unfoldable pub is_both : Options → Flag → Bool
@@ -91,12 +94,12 @@ abbrev pub given : {A : Type 0} → Option A → WordsCause → (A → Options) 
 given {A} (Some a) cause set = Ok (set a)
 given {A} None cause set = Err cause
 
--- the place of a value that is a path
-abbrev pub path_at : List ℕ → Place → Option Place
+-- the word of a value that is a path
+abbrev pub path_at : List ℕ → Stated → Option Stated
 path_at text at = if is_path text then Some at else None
 
--- with an option and the text of its value, which stands at that place
-unfoldable pub valued : Options → Flag → List ℕ → Place → Result Options WordsCause
+-- with an option and the text of its value, which that word states
+unfoldable pub valued : Options → Flag → List ℕ → Stated → Result Options WordsCause
 valued o flag.Queue text at = given (name_of text) cause.BadName (λ q. record o { queue = Some q })
 valued o flag.Priority text at = given (number_of 0 63 text) cause.BadNumber (λ n. record o { priority = Some n })
 valued o flag.JobName text at = given (name_of text) cause.BadName (λ n. record o { job_name = Some n })
@@ -106,6 +109,7 @@ valued o flag.Error text at = given (path_at text at) cause.BadPath (λ p. recor
 valued o flag.Cpu text at = given (time_of text) cause.BadNumber (λ n. record o { cpu = Some n })
 valued o flag.Memory text at = given (size_of text) cause.BadNumber (λ n. record o { memory = Some n })
 valued o flag.Forms text at = given (name_of text) cause.BadName (λ f. record o { forms = Some f })
+valued o flag.Folder text at = given (name_of text) cause.BadName (λ f. record o { folder = Some f })
 valued o _ text at = Ok o
 
 -- ---- words in order
@@ -114,7 +118,7 @@ valued o _ text at = Ok o
 unfoldable pub with_value : Source → List (List ℕ) → List ℕ → ℕ → ℕ → Token → Options → Flag → Read Progress
 with_value source words text line n token o f = do
   value ← or_fault (next_token source words text token.after) (fault_at line n cause.Missing)
-  more ← located line (n + 1) (valued o f (text_of words text value.at) value.at)
+  more ← located line (n + 1) (valued o f (text_of words text value.at) (stated value.at line (n + 1)))
   Ok (record { options = more; number = n + 2; place = value.after })
 
 -- an option's word with its value, or without where it takes none

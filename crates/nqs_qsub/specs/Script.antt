@@ -39,7 +39,7 @@ next_line script place = if nat_lt (line_end script place) (length script) then 
 unfoldable pub line_options : LineKind → List ℕ → ℕ → ℕ → Options → Read (Options × Bool)
 line_options Last script line place o = Ok (o, false)
 line_options Remark script line place o = Ok (o, true)
-line_options Words script line place o = read_words 12 Script [] (take (line_end script place) script) line 1 (place + 3) o >>= (λ more. Ok (more, true))
+line_options Words script line place o = read_words 13 Script [] (take (line_end script place) script) line 1 (place + 3) o >>= (λ more. Ok (more, true))
 
 -- the options so far, or with those of the next lines, where the reading goes on
 abbrev pub go_on : Options × Bool → (Options → Read Options) → Read Options

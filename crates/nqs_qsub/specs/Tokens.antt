@@ -12,6 +12,7 @@ use Rattle.nqs_qsub.specs.declared.token.Source.TheVariants.{Command, Script}
 use Rattle.nqs_qsub.specs.declared.token.Place.{Place}
 use Rattle.nqs_qsub.specs.declared.token.Place.TheVariants.{InCommand, InScript}
 use Rattle.nqs_qsub.specs.declared.token.Token.{Token}
+use Rattle.nqs_qsub.specs.declared.token.Stated.{Stated}
 
 -- what a part of the words gives, or the first fault
 abbrev pub Read : Type 0 → Type 0
@@ -25,6 +26,10 @@ fault_at line number cause = record { cause = cause; line = line; word = number 
 abbrev pub located : {A : Type 0} → ℕ → ℕ → Result A WordsCause → Read A
 located {A} line number (Ok a) = Ok a
 located {A} line number (Err cause) = Err (fault_at line number cause)
+
+-- a word that states a value, by its place, its line and its number in it
+abbrev pub stated : Place → ℕ → ℕ → Stated
+stated at line number = record { at = at; line = line; number = number }
 
 -- a word of the script, and the place behind it
 abbrev pub word_token : Word → Token

@@ -16,10 +16,10 @@ mod script;
 mod submission;
 mod token;
 
-pub use laws::reads_what_is_said;
+pub use laws::{reads_what_is_said, the_last_folder_holds};
 pub use options::{Flag, Options};
 pub use path::is_path;
 pub use reading::Progress;
 pub use script::LineKind;
 pub use submission::{read_qsub, read_qsub_of};
-pub use token::{Place, Source, Token};
+pub use token::{Place, Source, Stated, Token};

@@ -4,11 +4,12 @@ ghost use Rattle.std.specs.Prelude.{◌≡◌};
 ghost use Rattle.nqs_base.specs.Path.{is_path};
 ghost use Rattle.nqs_words.specs.Values.{number_of};
 ghost use Rattle.nqs_qsub.specs.declared.token.Place.TheVariants.{InCommand};
+ghost use Rattle.nqs_qsub.specs.Tokens.{stated};
 ghost use Rattle.nqs_qsub.specs.declared.options.Flag.TheVariants as flag;
 ghost use Rattle.nqs_qsub.specs.Options.{flag_of, no_options, is_given, is_both, fresh, takes_value, marked, path_at, valued};
 
 use crate::path::is_path;
-use crate::token::Place;
+use crate::token::Stated;
 use nqs_base::Name;
 use nqs_types::WordsCause;
 use nqs_words::{moment_of, name_of, number_of, size_of, time_of};
@@ -27,22 +28,25 @@ pub enum Flag {
     Cpu,
     Memory,
     Forms,
+    Folder,
 }
 
-/// The options that were given. A path is named by its place among the words.
+/// The options that were given. A path is named by the word that states it.
 #[derive(Clone, Copy)]
 pub struct Options {
     pub queue: Option<Name>,
     pub priority: Option<u8>,
     pub job_name: Option<Name>,
     pub earliest: Option<u64>,
-    pub out: Option<Place>,
-    pub error: Option<Place>,
+    pub out: Option<Stated>,
+    pub error: Option<Stated>,
     pub join: bool,
     pub no_rerun: bool,
     pub cpu: Option<u64>,
     pub memory: Option<u64>,
     pub forms: Option<Name>,
+    /// The folder in which both paths of outputs stand.
+    pub folder: Option<Name>,
 }
 
 /// No option.
@@ -61,6 +65,7 @@ pub(crate) fn no_options() -> Options
         cpu: None,
         memory: None,
         forms: None,
+        folder: None,
     }
 }
 
@@ -102,6 +107,9 @@ pub(crate) fn flag_of(bytes: &[u8]) -> Option<Flag>
     if b"-f".as_slice() == bytes {
         return Some(Flag::Forms);
     }
+    if b"-do".as_slice() == bytes {
+        return Some(Flag::Folder);
+    }
     None
 }
 
@@ -122,6 +130,7 @@ pub(crate) fn is_given(options: &Options, flag: Flag) -> bool
         Flag::Cpu => options.cpu.is_some(),
         Flag::Memory => options.memory.is_some(),
         Flag::Forms => options.forms.is_some(),
+        Flag::Folder => options.folder.is_some(),
     }
 }
 
@@ -181,7 +190,7 @@ pub(crate) fn marked(options: Options, flag: Flag) -> Options
     }
 }
 
-fn path_at(text: &[u8], at: Place) -> Option<Place>
+fn path_at(text: &[u8], at: Stated) -> Option<Stated>
     ensures { result ≡ path_at text.now at }
 {
     if is_path(text) { Some(at) } else { None }
@@ -198,7 +207,7 @@ fn priority_of(text: &[u8]) -> Option<u8>
 
 #[tactic(auto, unfolding(crate::specs::Options::valued))]
 fn with_queue(options: Options, text: &[u8]) -> Result<Options, WordsCause>
-    ensures { result ≡ valued options flag.Queue text.now (InCommand 0) }
+    ensures { result ≡ valued options flag.Queue text.now (stated (InCommand 0) 0 0) }
 {
     match name_of(text) {
         Some(queue) => Ok(Options {
@@ -211,7 +220,7 @@ fn with_queue(options: Options, text: &[u8]) -> Result<Options, WordsCause>
 
 #[tactic(auto, unfolding(crate::specs::Options::valued))]
 fn with_priority(options: Options, text: &[u8]) -> Result<Options, WordsCause>
-    ensures { result ≡ valued options flag.Priority text.now (InCommand 0) }
+    ensures { result ≡ valued options flag.Priority text.now (stated (InCommand 0) 0 0) }
 {
     match priority_of(text) {
         Some(priority) => Ok(Options {
@@ -224,7 +233,7 @@ fn with_priority(options: Options, text: &[u8]) -> Result<Options, WordsCause>
 
 #[tactic(auto, unfolding(crate::specs::Options::valued))]
 fn with_job_name(options: Options, text: &[u8]) -> Result<Options, WordsCause>
-    ensures { result ≡ valued options flag.JobName text.now (InCommand 0) }
+    ensures { result ≡ valued options flag.JobName text.now (stated (InCommand 0) 0 0) }
 {
     match name_of(text) {
         Some(job_name) => Ok(Options {
@@ -237,7 +246,7 @@ fn with_job_name(options: Options, text: &[u8]) -> Result<Options, WordsCause>
 
 #[tactic(auto, unfolding(crate::specs::Options::valued))]
 fn with_earliest(options: Options, text: &[u8]) -> Result<Options, WordsCause>
-    ensures { result ≡ valued options flag.Earliest text.now (InCommand 0) }
+    ensures { result ≡ valued options flag.Earliest text.now (stated (InCommand 0) 0 0) }
 {
     match moment_of(text) {
         Some(earliest) => Ok(Options {
@@ -249,7 +258,7 @@ fn with_earliest(options: Options, text: &[u8]) -> Result<Options, WordsCause>
 }
 
 #[tactic(auto, unfolding(crate::specs::Options::valued))]
-fn with_out(options: Options, text: &[u8], at: Place) -> Result<Options, WordsCause>
+fn with_out(options: Options, text: &[u8], at: Stated) -> Result<Options, WordsCause>
     ensures { result ≡ valued options flag.Out text.now at }
 {
     match path_at(text, at) {
@@ -262,7 +271,7 @@ fn with_out(options: Options, text: &[u8], at: Place) -> Result<Options, WordsCa
 }
 
 #[tactic(auto, unfolding(crate::specs::Options::valued))]
-fn with_error(options: Options, text: &[u8], at: Place) -> Result<Options, WordsCause>
+fn with_error(options: Options, text: &[u8], at: Stated) -> Result<Options, WordsCause>
     ensures { result ≡ valued options flag.Error text.now at }
 {
     match path_at(text, at) {
@@ -276,7 +285,7 @@ fn with_error(options: Options, text: &[u8], at: Place) -> Result<Options, Words
 
 #[tactic(auto, unfolding(crate::specs::Options::valued))]
 fn with_cpu(options: Options, text: &[u8]) -> Result<Options, WordsCause>
-    ensures { result ≡ valued options flag.Cpu text.now (InCommand 0) }
+    ensures { result ≡ valued options flag.Cpu text.now (stated (InCommand 0) 0 0) }
 {
     match time_of(text) {
         Some(cpu) => Ok(Options {
@@ -289,7 +298,7 @@ fn with_cpu(options: Options, text: &[u8]) -> Result<Options, WordsCause>
 
 #[tactic(auto, unfolding(crate::specs::Options::valued))]
 fn with_memory(options: Options, text: &[u8]) -> Result<Options, WordsCause>
-    ensures { result ≡ valued options flag.Memory text.now (InCommand 0) }
+    ensures { result ≡ valued options flag.Memory text.now (stated (InCommand 0) 0 0) }
 {
     match size_of(text) {
         Some(memory) => Ok(Options {
@@ -302,7 +311,7 @@ fn with_memory(options: Options, text: &[u8]) -> Result<Options, WordsCause>
 
 #[tactic(auto, unfolding(crate::specs::Options::valued))]
 fn with_forms(options: Options, text: &[u8]) -> Result<Options, WordsCause>
-    ensures { result ≡ valued options flag.Forms text.now (InCommand 0) }
+    ensures { result ≡ valued options flag.Forms text.now (stated (InCommand 0) 0 0) }
 {
     match name_of(text) {
         Some(forms) => Ok(Options {
@@ -313,13 +322,26 @@ fn with_forms(options: Options, text: &[u8]) -> Result<Options, WordsCause>
     }
 }
 
-/// The options with one and the text of its value, which stands at that place.
+#[tactic(auto, unfolding(crate::specs::Options::valued))]
+fn with_folder(options: Options, text: &[u8]) -> Result<Options, WordsCause>
+    ensures { result ≡ valued options flag.Folder text.now (stated (InCommand 0) 0 0) }
+{
+    match name_of(text) {
+        Some(folder) => Ok(Options {
+            folder: Some(folder),
+            ..options
+        }),
+        None => Err(WordsCause::BadName),
+    }
+}
+
+/// The options with one and the text of its value, which that word states.
 #[tactic(auto, unfolding(crate::specs::Options::valued))]
 pub(crate) fn valued(
     options: Options,
     flag: Flag,
     text: &[u8],
-    at: Place,
+    at: Stated,
 ) -> Result<Options, WordsCause>
     ensures { result ≡ valued options flag text.now at }
 {
@@ -333,6 +355,7 @@ pub(crate) fn valued(
         Flag::Cpu => with_cpu(options, text),
         Flag::Memory => with_memory(options, text),
         Flag::Forms => with_forms(options, text),
+        Flag::Folder => with_folder(options, text),
         _ => Ok(options),
     }
 }

@@ -1,11 +1,11 @@
 //! Options in order, from a place on.
 
 ghost use Rattle.std.specs.Prelude.{◌≡◌, ◌+◌, ◌*◌, ◌≤◌, IfOk};
-ghost use Rattle.nqs_qsub.specs.Tokens.{fault_at, located};
+ghost use Rattle.nqs_qsub.specs.Tokens.{fault_at, located, stated};
 ghost use Rattle.nqs_qsub.specs.Options.{fresh, valued, takes_value, with_value, with_flag, one_option, read_words};
 
 use crate::options::{Flag, Options, flag_of, fresh, marked, takes_value, valued};
-use crate::token::{Source, Token, fault_at, next_token, text_of};
+use crate::token::{Source, Stated, Token, fault_at, next_token, text_of};
 use nqs_base::Bytes;
 use nqs_types::{WordsCause, WordsFault};
 
@@ -35,9 +35,14 @@ fn valued_at(
     line: u32,
     number: u32,
 ) -> Result<Options, WordsFault>
-    ensures { result ≡ located line number (valued options flag text.now value.at) }
+    ensures { result ≡ located line number (valued options flag text.now (stated value.at line number)) }
 {
-    match valued(options, flag, text, value.at) {
+    let at = Stated {
+        at: value.at,
+        line,
+        number,
+    };
+    match valued(options, flag, text, at) {
         Ok(more) => Ok(more),
         Err(cause) => Err(fault_at(line, number, cause)),
     }

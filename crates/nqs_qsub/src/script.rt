@@ -113,12 +113,12 @@ fn words_of_line(
     options: Options,
 ) -> Result<Options, WordsFault>
     requires { place ≤ length script.now }
-    ensures { result ≡ read_words 12 Script [] (take (line_end script.now place) script.now) line 1 (place + 3) options }
+    ensures { result ≡ read_words 13 Script [] (take (line_end script.now place) script.now) line 1 (place + 3) options }
 {
     let end = line_end(script, place);
     let from = place.saturating_add(3);
     read_words(
-        12,
+        13,
         Source::Script,
         &[],
         &script[..end],

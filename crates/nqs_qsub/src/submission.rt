@@ -1,15 +1,18 @@
 //! A submission from its words and its script. The command's word wins over the script's; a
-//! command's `-e` or `-eo` sets aside both of the script's.
+//! command's `-e` or `-eo` sets aside both of the script's. Stated paths get their folder here, and
+//! have to fit with it.
 
 ghost use Rattle.std.specs.Prelude.{◌≡◌, ◌≤◌, length, codes, IfOk};
+ghost use Rattle.nqs_rules.specs.Step.{within};
 ghost use Rattle.nqs_qsub.specs.Tokens.{fault_at};
-ghost use Rattle.nqs_qsub.specs.Qsub.{has_error, merged, both_options, qsub_options, path_text, job, submission, ReadsQsub};
+ghost use Rattle.nqs_qsub.specs.Qsub.{has_error, merged, fits, fitted, both_options, qsub_options, path_text, job, submission};
+ghost use Rattle.nqs_qsub.specs.Qsub.{ReadsQsub};
 ghost use Rattle.nqs_qsub.specs.Law.{Answers};
 
 use crate::options::{Options, no_options};
 use crate::reading::read_words;
 use crate::script::script_options;
-use crate::token::{Place, Source, fault_at, text_of};
+use crate::token::{Source, Stated, fault_at, text_of};
 use nqs_base::{Bytes, Memory, Name};
 use nqs_types::{Job, Limits, Submission, WordsCause, WordsFault};
 use std::alloc::Global;
@@ -20,7 +23,7 @@ fn has_error(options: &Options) -> bool
     options.error.is_some() || options.join
 }
 
-fn error_path(command: &Options, script: &Options) -> Option<Place>
+fn error_path(command: &Options, script: &Options) -> Option<Stated>
     ensures { result ≡ (merged command.now script.now).error }
 {
     if has_error(command) {
@@ -54,7 +57,46 @@ fn merged(command: &Options, script: &Options) -> Options
         cpu: command.cpu.or(script.cpu),
         memory: command.memory.or(script.memory),
         forms: command.forms.or(script.forms),
+        folder: command.folder.or(script.folder),
     }
+}
+
+// How many bytes a path has in that folder, where there is one.
+fn length_within(folder: Option<Name>, path: &[u8]) -> usize
+    ensures { result ≡ length (within folder path.now) }
+{
+    match folder {
+        Some(folder) => folder.as_bytes().len() + 1 + path.len(),
+        None => path.len(),
+    }
+}
+
+// That a stated path fits into its folder.
+fn fits(
+    words: &[Bytes],
+    script: &[u8],
+    folder: Option<Name>,
+    path: Option<Stated>,
+) -> Result<(), WordsFault>
+    ensures { result ≡ fits words.now script.now folder path }
+{
+    let Some(path) = path else {
+        return Ok(());
+    };
+    if length_within(folder, text_of(words, script, path.at)) <= 255 {
+        return Ok(());
+    }
+    Err(fault_at(path.line, path.number, WordsCause::BadPath))
+}
+
+// The options, where both paths do.
+#[tactic(auto, unfolding(crate::specs::Qsub::fitted))]
+fn fitted(words: &[Bytes], script: &[u8], options: &Options) -> Result<Options, WordsFault>
+    ensures { result ≡ fitted words.now script.now options.now }
+{
+    fits(words, script, options.folder, options.out)?;
+    fits(words, script, options.folder, options.error)?;
+    Ok(*options)
 }
 
 #[tactic(auto, unfolding(crate::specs::Qsub::both_options))]
@@ -62,9 +104,12 @@ fn both_options(words: &[Bytes], script: &[u8]) -> Result<Options, WordsFault>
     requires { length script.now ≤ 32768 }
     ensures { result ≡ both_options words.now script.now }
 {
-    let command = read_words(12, Source::Command, words, b"", 0, 1, 0, no_options())?;
+    let command = read_words(13, Source::Command, words, b"", 0, 1, 0, no_options())?;
     let scripted = script_options(script)?;
-    Ok(merged(&command, &scripted))
+    let both = merged(&command, &scripted);
+    // The proof needs the type of its fields.
+    let _folder = both.folder;
+    fitted(words, script, &both)
 }
 
 #[tactic(auto, unfolding(crate::specs::Qsub::qsub_options))]
@@ -77,20 +122,34 @@ fn qsub_options(words: &[Bytes], script: &[u8]) -> Result<Options, WordsFault>
     both_options(words, script)
 }
 
-// A path; none is empty.
+// The path in that folder, where there is one.
+fn within(alloc: Global, folder: Option<Name>, path: &[u8]) -> Result<Vec<u8>, Memory>
+    ensures { IfOk result (λ bytes. bytes.items ≡ within folder path.now) }
+{
+    let Some(folder) = folder else {
+        return Ok(Vec::from_slice(alloc, path)?);
+    };
+    let mut bytes = Vec::from_slice(alloc, folder.as_bytes())?;
+    bytes.push(b'/')?;
+    bytes.extend_from_slice(path)?;
+    Ok(bytes)
+}
+
+// A path, in the folder where there is one; none is empty.
 fn path_text(
     alloc: Global,
     words: &[Bytes],
     script: &[u8],
-    place: Option<Place>,
+    folder: Option<Name>,
+    path: Option<Stated>,
 ) -> Result<Bytes, Memory>
-    ensures { IfOk result (λ path. path ≡ path_text words.now script.now place) }
+    ensures { IfOk result (λ bytes. bytes ≡ path_text words.now script.now folder path) }
 {
-    let Some(at) = place else {
+    let Some(path) = path else {
         return Ok(Bytes::new(alloc));
     };
-    let text = Vec::from_slice(alloc, text_of(words, script, at))?;
-    Ok(Bytes::from_vec(text))
+    let bytes = within(alloc, folder, text_of(words, script, path.at))?;
+    Ok(Bytes::from_vec(bytes))
 }
 
 fn job_name() -> Name
@@ -111,8 +170,8 @@ fn job(
 ) -> Result<Job, Memory>
     ensures { IfOk result (λ j. j ≡ job user.now words.now script.now options.now) }
 {
-    let out = path_text(alloc, words, script, options.out)?;
-    let err = path_text(alloc, words, script, options.error)?;
+    let out = path_text(alloc, words, script, options.folder, options.out)?;
+    let err = path_text(alloc, words, script, options.folder, options.error)?;
     Ok(Job {
         name: options.job_name.unwrap_or(job_name()),
         owner: *user,
@@ -143,6 +202,7 @@ fn submission(
     let job = job(alloc, user, words, script.as_slice(), options)?;
     Ok(Submission {
         queue: options.queue,
+        folder: options.folder,
         job,
         script,
     })
@@ -200,8 +260,9 @@ fn read_keeping(
 
 /// The submission of this user by these words and this script, or the first fault. A script above
 /// 32,768 bytes is `ScriptTooLong` at word 0, before all else; then come the command's words, then
-/// the script's lines. Default paths of outputs are empty. Memory is taken for the paths and the
-/// script alone, so a fault is found without any.
+/// the script's lines, then paths that have over 255 bytes with the folder before them. Default
+/// paths of outputs are empty. Memory is taken for the paths and the script alone, so a fault is
+/// found without any.
 pub fn read_qsub(
     alloc: Global,
     user: &Name,

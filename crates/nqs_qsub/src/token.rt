@@ -35,6 +35,16 @@ pub struct Token {
     pub after: usize,
 }
 
+/// A word that states a value: where it stands, and where a fault of it is told.
+#[derive(Clone, Copy)]
+pub struct Stated {
+    pub at: Place,
+    /// The line of the script, or 0 for the command.
+    pub line: u32,
+    /// The number of the word in it.
+    pub number: u32,
+}
+
 /// A fault of a word, by the script's line, 0 for the command, and the word's number.
 pub(crate) fn fault_at(line: u32, number: u32, cause: WordsCause) -> WordsFault
     ensures { result ≡ fault_at line number cause }

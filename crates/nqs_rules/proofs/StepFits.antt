@@ -27,7 +27,7 @@ use Rattle.nqs_rules.specs.Causes.{Cause, cause, first_refusal}
 use Rattle.nqs_rules.specs.Find.{peer_number, has_queue, find_queue, find_row, row_of, meant_request, meant_row}
 use Rattle.nqs_rules.specs.Access.{rank, command_causes}
 use Rattle.nqs_rules.specs.Rows.{queue_meant, causes_of, queue_entry_causes, submit_causes_at, delete_causes, is_host_full, numbers_used, arrivals_used}
-use Rattle.nqs_rules.specs.Sane.{is_asked_job, is_short_script, is_sane_command, is_sane_change}
+use Rattle.nqs_rules.specs.Sane.{is_asked_job, is_sane_folder, is_asked, is_short_script, is_sane_command, is_sane_change}
 use Rattle.nqs_rules.specs.Fits.{fits, edit_causes, is_offered_hand, hand_passes, is_idle, row_passes}
 use Rattle.nqs_rules.specs.Stepped.{Stepped, makes}
 use Rattle.nqs_rules.specs.Handover.{later, is_silent, silent_hands, silence}
@@ -65,7 +65,7 @@ module _ {E : Type 0} where
         by (Err refusal) e = tt
         by (Ok u) e = fitting (ap is_ok e)
 
-    submit_fits : (a : Asker) (sub : Submission) → is_asked_job sub.job ≡ true → Fitting s (on_submit a sub s).change
+    submit_fits : (a : Asker) (sub : Submission) → is_asked sub ≡ true → Fitting s (on_submit a sub s).change
     submit_fits a sub asked = of (queue_meant sub.queue s.default_queue)
       where
         made : (q : List ℕ) → Allows (submit_causes_at sub.job (Some q) s) → Fitting s (submit_to a sub s (Some q)).change
@@ -88,7 +88,8 @@ module _ {E : Type 0} where
                   ),
                 ),
               ),
-              completed_sane (s.seq + 1) sub.job (omega (arith, below)) asked,
+              completed_sane (s.seq + 1) sub.folder sub.job (omega (arith, below)) (and_parts (is_asked_job sub.job) (is_sane_folder sub.folder) asked).0
+                  (and_parts (is_asked_job sub.job) (is_sane_folder sub.folder) asked).1,
             )
 
         of : (o : Option (List ℕ)) → Fitting s (unless_refused a (first_refusal (submit_causes_at sub.job o s)) (submit_to a sub s o)).change
@@ -141,7 +142,7 @@ module _ {E : Type 0} where
         of (k ∷ ks) all = (all, refl)
 
     allowed_fits : (now : ℕ) (a : Asker) (user : List ℕ) (c : Command) → is_sane_command c ≡ true → Fitting s (on_allowed now a user c s).change
-    allowed_fits now a user (command.Submit sub) sane = submit_fits a sub (and_parts (is_asked_job sub.job) (is_short_script sub.script) sane).0
+    allowed_fits now a user (command.Submit sub) sane = submit_fits a sub (and_parts (is_asked sub) (is_short_script sub.script) sane).0
     allowed_fits now a user (command.Edit e) sane = unless a (edit_causes e s) (makes (Edited e) (reply_to a reply.Done ∷ kills_of e s))
         (λ allows. (allows, sane))
     allowed_fits now a user (command.Stat owner queues) sane = unless a (stat_causes queues s) (answer_to a (reply.Lines (stat_lines owner queues s)))

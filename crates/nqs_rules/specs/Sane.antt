@@ -1,7 +1,7 @@
 -- Values within their limits: what the readers of records, words and datagrams make sure of.
-use Rattle.std.specs.Prelude.{ℕ, Bool, true, not, ◌&&◌, ◌==◌, nat_le, nat_lt, List, [], ◌∷◌, length}
+use Rattle.std.specs.Prelude.{ℕ, Bool, true, not, ◌&&◌, ◌==◌, nat_le, nat_lt, List, [], ◌∷◌, length, Option, None, Some}
 use Rattle.std.specs.List.{list_all, list_any}
-use Rattle.nqs_base.specs.Path.{is_visible, is_path}
+use Rattle.nqs_base.specs.Path.{is_visible, is_parent, is_path}
 use Rattle.nqs_rules.specs.Tests.{last_seq}
 use Rattle.nqs_rules.specs.Conf.{is_conf_within}
 use Rattle.nqs_rules.specs.Limits.{is_limits_within}
@@ -18,6 +18,7 @@ use Rattle.nqs_types.specs.declared.change.Change.TheVariants.{Site, Submitted, 
 use Rattle.nqs_types.specs.declared.message.Message.{Message}
 use Rattle.nqs_types.specs.declared.message.Body.{Body}
 use Rattle.nqs_types.specs.declared.message.Body.TheVariants as body
+use Rattle.nqs_types.specs.declared.event.Submission.{Submission}
 use Rattle.nqs_types.specs.declared.event.Command.{Command}
 use Rattle.nqs_types.specs.declared.event.Command.TheVariants as command
 use Rattle.nqs_types.specs.declared.event.Event.{Event}
@@ -79,6 +80,15 @@ is_sane_name name = nat_le 1 (length name) && nat_le (length name) 15 && list_al
 abbrev pub is_asked_job : Job → Bool
 is_asked_job j = is_sane_name j.name && nat_le j.priority 63 && is_path_or_none j.out && is_path_or_none j.err
 
+-- a folder of outputs, where there is one, is a name other than `..`
+abbrev pub is_sane_folder : Option (List ℕ) → Bool
+is_sane_folder None = true
+is_sane_folder (Some folder) = is_sane_name folder && not (is_parent folder)
+
+-- what is asked for in a submission, beside its script: the job, and the folder of its outputs
+abbrev pub is_asked : Submission → Bool
+is_asked sub = is_asked_job sub.job && is_sane_folder sub.folder
+
 -- a script has at most 32,768 bytes
 abbrev pub is_short_script : List ℕ → Bool
 is_short_script bytes = nat_le (length bytes) 32768
@@ -89,7 +99,7 @@ is_short_output bytes = nat_le (length bytes) 16384
 
 -- what a command brings is within its limits
 abbrev pub is_sane_command : Command → Bool
-is_sane_command (command.Submit sub) = is_asked_job sub.job && is_short_script sub.script
+is_sane_command (command.Submit sub) = is_asked sub && is_short_script sub.script
 is_sane_command (command.Edit e) = is_sane_edit e
 is_sane_command _ = true
 

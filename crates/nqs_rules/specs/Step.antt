@@ -37,14 +37,19 @@ use Rattle.nqs_types.specs.declared.event.Reply.{Reply}
 use Rattle.nqs_types.specs.declared.event.Reply.TheVariants as reply
 use Rattle.nqs_types.specs.declared.event.Output.TheVariants as out
 
--- a path, or where it is empty the default one: NAME.oSEQ or NAME.eSEQ
-abbrev pub path_or : List ℕ → List ℕ → ℕ → ℕ → List ℕ
-path_or [] name letter seq = name ++ 46 ∷ letter ∷ [] ++ decimal seq
-path_or (b ∷ bs) name letter seq = b ∷ bs
+-- a path, with `FOLDER/` before it where there is a folder
+abbrev pub within : Option (List ℕ) → List ℕ → List ℕ
+within None path = path
+within (Some folder) path = folder ++ 47 ∷ [] ++ path
 
--- a job under its number, with its default paths
-abbrev pub completed : ℕ → Job → Job
-completed seq job = record job { out = path_or job.out job.name 111 seq; err = path_or job.err job.name 101 seq }
+-- a path, or where it is empty the default one, NAME.oSEQ or NAME.eSEQ, in the folder
+abbrev pub path_or : Option (List ℕ) → List ℕ → List ℕ → ℕ → ℕ → List ℕ
+path_or folder [] name letter seq = within folder (name ++ 46 ∷ letter ∷ [] ++ decimal seq)
+path_or folder (b ∷ bs) name letter seq = b ∷ bs
+
+-- a job under its number, with its default paths, which stand in the folder
+abbrev pub completed : ℕ → Option (List ℕ) → Job → Job
+completed seq folder job = record job { out = path_or folder job.out job.name 111 seq; err = path_or folder job.err job.name 101 seq }
 
 -- where a reply goes: the port, and the token of what was asked
 pub record Asker : Type 0 where
@@ -75,7 +80,7 @@ module _ {E : Type 0} where
   abbrev pub submit_to : Asker → Submission → State E → Option (List ℕ) → Stepped E
   submit_to a sub s None = refuse a NoDefault
   submit_to a sub s (Some queue) =
-      makes (Submitted queue (completed (s.seq + 1) sub.job) sub.script) (reply_to a (reply.Submitted (next_id s) queue) ∷ [])
+      makes (Submitted queue (completed (s.seq + 1) sub.folder sub.job) sub.script) (reply_to a (reply.Submitted (next_id s) queue) ∷ [])
 
   -- what a host does at a submission
   abbrev pub on_submit : Asker → Submission → State E → Stepped E

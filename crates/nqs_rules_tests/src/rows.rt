@@ -21,6 +21,7 @@ fn limited(alloc: Global, name: Name, enabled: bool, pipe_only: bool) -> QueueDe
 fn submission(alloc: Global, queue: Option<Name>, owner: Name, cpu: Option<u64>) -> Submission {
     let mut submission = Submission {
         queue,
+        folder: None,
         job: job(alloc, owner),
         script: ListOf::new(alloc),
     };

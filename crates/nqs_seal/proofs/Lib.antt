@@ -3,3 +3,4 @@ pub mod Opened
 pub mod Tags
 pub mod Same
 pub mod Keys
+pub mod Typed

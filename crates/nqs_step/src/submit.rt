@@ -1,7 +1,7 @@
 //! A request is submitted.
 ghost use Rattle.std.specs.Prelude.{◌≡◌, ◌+◌, ◌<◌, ◌^◌, IfOk, Some};
 ghost use Rattle.nqs_state.specs.State.{content};
-ghost use Rattle.nqs_rules.specs.Step.{path_or, completed, submit_to, on_submit};
+ghost use Rattle.nqs_rules.specs.Step.{within, path_or, completed, submit_to, on_submit};
 ghost use Rattle.nqs_rules.specs.Stepped.{plan_of};
 ghost use Rattle.nqs_step.specs.Asked.{asked};
 
@@ -14,9 +14,29 @@ use nqs_types::{Change, Job, Plan, Refusal, Reply, RequestId, Submission};
 use std::alloc::Global;
 use std::mem::replace;
 
-// The path, or the default one where it is empty: NAME.oSEQ or NAME.eSEQ.
-fn path_or(alloc: Global, path: &Bytes, name: &Name, letter: u8, seq: u32) -> Result<Bytes, Memory>
-    ensures { IfOk result (λ p. p ≡ path_or path.now name.now letter seq) }
+// The path in that folder, where there is one.
+fn within(alloc: Global, folder: Option<Name>, path: Vec<u8>) -> Result<Vec<u8>, Memory>
+    ensures { IfOk result (λ p. p.items ≡ within folder path.items) }
+{
+    let Some(folder) = folder else {
+        return Ok(path);
+    };
+    let mut bytes = Vec::from_slice(alloc, folder.as_bytes())?;
+    bytes.push(b'/')?;
+    bytes.extend_from_slice(&path)?;
+    Ok(bytes)
+}
+
+// The path, or the default one in the folder where it is empty: NAME.oSEQ or NAME.eSEQ.
+fn path_or(
+    alloc: Global,
+    folder: Option<Name>,
+    path: &Bytes,
+    name: &Name,
+    letter: u8,
+    seq: u32,
+) -> Result<Bytes, Memory>
+    ensures { IfOk result (λ p. p ≡ path_or folder path.now name.now letter seq) }
 {
     if !path.as_slice().is_empty() {
         return copy_bytes(path);
@@ -25,12 +45,13 @@ fn path_or(alloc: Global, path: &Bytes, name: &Name, letter: u8, seq: u32) -> Re
     bytes.extend_from_slice(&[b'.', letter])?;
     let number = format!(in alloc; "{seq}")?;
     bytes.extend_from_slice(number.as_bytes())?;
-    Ok(ListOf::from_vec(bytes))
+    let placed = within(alloc, folder, bytes)?;
+    Ok(ListOf::from_vec(placed))
 }
 
-// The job under its number, with its default paths.
-fn completed(alloc: Global, seq: u32, job: &Job) -> Result<Job, Memory>
-    ensures { IfOk result (λ j. j ≡ completed seq job.now) }
+// The job under its number, with its default paths, which stand in the folder.
+fn completed(alloc: Global, seq: u32, folder: Option<Name>, job: &Job) -> Result<Job, Memory>
+    ensures { IfOk result (λ j. j ≡ completed seq folder job.now) }
 {
     Ok(Job {
         name: job.name,
@@ -40,8 +61,8 @@ fn completed(alloc: Global, seq: u32, job: &Job) -> Result<Job, Memory>
         rerun: job.rerun,
         limits: job.limits,
         forms: job.forms,
-        out: path_or(alloc, &job.out, &job.name, b'o', seq)?,
-        err: path_or(alloc, &job.err, &job.name, b'e', seq)?,
+        out: path_or(alloc, folder, &job.out, &job.name, b'o', seq)?,
+        err: path_or(alloc, folder, &job.err, &job.name, b'e', seq)?,
         join: job.join,
     })
 }
@@ -61,7 +82,7 @@ fn submit_to(
     let host = state.me;
     let submitted = Change::Submitted {
         queue,
-        job: completed(alloc, seq, &submission.job)?,
+        job: completed(alloc, seq, submission.folder, &submission.job)?,
         script: no_extent(),
     };
     let script = replace(&mut submission.script, ListOf::new(alloc));

@@ -151,6 +151,7 @@ fn empty_submission(alloc: Global) -> Command
     };
     Command::Submit(Submission {
         queue: None,
+        folder: None,
         job,
         script: Bytes::new(alloc),
     })

@@ -69,6 +69,7 @@ pub(crate) fn submission(alloc: Global) -> Result<Command, Memory>
     };
     Ok(Command::Submit(Submission {
         queue: None,
+        folder: None,
         job,
         script: Bytes::from_vec(script),
     }))

@@ -15,6 +15,8 @@ use nqs_base::{Bytes, Extent, Items, ListOf, Name, NameList};
 #[derive(Drop)]
 pub struct Submission {
     pub queue: Option<Name>,
+    /// The folder of the default paths of outputs; paths that are stated have it already.
+    pub folder: Option<Name>,
     /// An empty path of an output stands for the default one.
     pub job: Job,
     pub script: Bytes,

@@ -153,7 +153,7 @@ fit_each cs s = map (λ c. fits c s) cs
 
 -- a submission to the default queue
 abbrev pub sample : Submission
-sample = record { queue = None; job = job_of (codes "ann"); script = [] }
+sample = record { queue = None; folder = None; job = job_of (codes "ann"); script = [] }
 
 -- a request of the other host
 abbrev pub far_carried : Carried

@@ -53,7 +53,7 @@ job_of owner = record {
 
 -- a submission as a command; without a queue it goes to the default one
 abbrev pub submission : Option (List ℕ) → Job → List ℕ → Command
-submission queue job script = Submit (record { queue = queue; job = job; script = script })
+submission queue job script = Submit (record { queue = queue; folder = None; job = job; script = script })
 
 -- a fault of words: its cause, the line, and the word of that line
 abbrev pub bad_words : WordsCause → ℕ → ℕ → WordsFault

@@ -100,6 +100,10 @@ edits_of_each_class =
 abbrev pub pathed : Job
 pathed = record (job_of (codes "ann")) { out = codes "o"; err = codes "e" }
 
+-- a job without paths
+abbrev pub pathless : Job
+pathless = record pathed { name = codes "run"; out = []; err = [] }
+
 -- jobs that may be kept: the first two, and none behind them
 abbrev pub kept_jobs : List Job
 kept_jobs =
@@ -157,7 +161,7 @@ lost_changes =
 
 -- a submission of such a job and such a script
 abbrev pub asked : Job → List ℕ → Command
-asked job script = command.Submit (record { queue = None; job = job; script = script })
+asked job script = command.Submit (record { queue = None; folder = None; job = job; script = script })
 
 -- commands within their limits
 abbrev pub kept_commands : List Command

@@ -128,7 +128,7 @@ greedy = record (job_of (codes "ann")) { limits = record { cpu = Some 6; memory 
 
 -- its submission to the queue batch
 abbrev pub greedy_submission : Submission
-greedy_submission = record { queue = Some (codes "batch"); job = greedy; script = [] }
+greedy_submission = record { queue = Some (codes "batch"); folder = None; job = greedy; script = [] }
 
 -- its row
 abbrev pub greedy_row : Row (List ℕ)

@@ -1,15 +1,16 @@
 //! Values at their bounds, and one beyond: edits, jobs, requests on their way, changes, commands,
 //! datagrams and events.
-ghost use Rattle.std.specs.Prelude.{◌≡◌, [], ◌∷◌, ◌++◌, map, replicate, true, false};
+ghost use Rattle.std.specs.Prelude.{◌≡◌, [], ◌∷◌, ◌++◌, map, replicate, codes, true, false, Some, None};
 ghost use Rattle.nqs_worked.specs.ScheduleWords.{host, request};
 ghost use Rattle.nqs_rules.specs.Conf.{is_conf_within};
 ghost use Rattle.nqs_rules.specs.Limits.{is_limits_within};
 ghost use Rattle.nqs_rules.specs.Rows.{is_rows_within};
 ghost use Rattle.nqs_rules.specs.Sane.{is_sane_edit, is_sane_job, is_sane_id, is_sane_carried, is_sane_change, is_name_byte, is_sane_name, is_asked_job};
-ghost use Rattle.nqs_rules.specs.Sane.{is_sane_command, is_offer_refusal, is_of_site, is_sane_body, is_sane_event};
+ghost use Rattle.nqs_rules.specs.Sane.{is_sane_folder, is_sane_command, is_offer_refusal, is_of_site, is_sane_body, is_sane_event};
 ghost use Rattle.nqs_worked_tables.specs.Bounds.{bytes, bounded_queue_edits, bounded_parameters, free_queue_edits, bounded_limits, free_limits, row_edits};
+ghost use Rattle.nqs_rules.specs.Step.{completed};
 ghost use Rattle.nqs_worked_tables.specs.Bounds.{edits_of_each_class, kept_jobs, asked_jobs, carried_ones, kept_changes, lost_changes, kept_commands};
-ghost use Rattle.nqs_worked_tables.specs.Bounds.{lost_commands, kept_bodies, lost_bodies, kept_events, lost_events};
+ghost use Rattle.nqs_worked_tables.specs.Bounds.{pathed, pathless, lost_commands, kept_bodies, lost_bodies, kept_events, lost_events};
 
 /// The numbers of edits: priorities to 63, limits of what runs to 10,000, waits from 1 to 86,400
 /// seconds.
@@ -30,8 +31,19 @@ pub fn jobs_have_bounds()
     ensures asked { map is_asked_job asked_jobs ≡ replicate 6 true ++ replicate 6 false }
     ensures name_bytes { map is_name_byte (32 ∷ 33 ∷ 46 ∷ 47 ∷ 48 ∷ 126 ∷ 127 ∷ []) ≡ false ∷ true ∷ true ∷ false ∷ true ∷ true ∷ false ∷ [] }
     ensures names { map (λ n. is_sane_name (bytes n)) (0 ∷ 1 ∷ 15 ∷ 16 ∷ []) ≡ false ∷ true ∷ true ∷ false ∷ [] }
+    ensures folders { map is_sane_folder (None ∷ Some (codes "ann") ∷ Some (bytes 15) ∷ Some (codes "..") ∷ Some (bytes 16) ∷ Some [] ∷ Some (codes "a/b") ∷ [])
+        ≡ replicate 3 true ++ replicate 4 false }
     ensures numbers { map (λ n. is_sane_id (request n 9)) (0 ∷ 1 ∷ 4294967294 ∷ 4294967295 ∷ []) ≡ false ∷ true ∷ true ∷ false ∷ [] }
     ensures carried { map is_sane_carried carried_ones ≡ replicate 4 true ++ replicate 7 false }
+{}
+
+/// Default paths stand in the submission's folder, where it has one, and stated ones where they are
+/// stated.
+pub fn default_paths_stand_in_the_folder()
+    ensures default { map (λ folder. (completed 7 folder pathless).out) (None ∷ Some (codes "ann") ∷ []) ≡ codes "run.o7" ∷ codes "ann/run.o7" ∷ [] }
+    ensures error { map (λ folder. (completed 7 folder pathless).err) (None ∷ Some (codes "ann") ∷ []) ≡ codes "run.e7" ∷ codes "ann/run.e7" ∷ [] }
+    ensures stated { map (λ folder. (completed 7 folder pathed).out) (None ∷ Some (codes "ann") ∷ []) ≡ codes "o" ∷ codes "o" ∷ [] }
+    ensures stated_error { map (λ folder. (completed 7 folder pathed).err) (None ∷ Some (codes "ann") ∷ []) ≡ codes "e" ∷ codes "e" ∷ [] }
 {}
 
 /// The values of each kind of change.

@@ -13,7 +13,7 @@ use Rattle.nqs_qmgr.specs.Lines.{read_request_and_name}
 use Rattle.nqs_qmgr.specs.Lines.{last_value, read_request_and_priority, read_name_and_forms, read_made_queue, read_shape, after_verb, qmgr_line}
 use Rattle.nqs_qmgr.specs.Options.{once, with_priority, with_run_limit, with_pipe_only, with_destination, with_option, options}
 use Rattle.nqs_qsub.specs.Options.{flag_of, is_given, is_both, fresh, takes_value, marked, valued as qsub_valued, with_value, one_option, read_words}
-use Rattle.nqs_qsub.specs.Qsub.{both_options, qsub_options}
+use Rattle.nqs_qsub.specs.Qsub.{fitted, both_options, qsub_options}
 use Rattle.nqs_qsub.specs.Script.{line_kind, line_end, next_line, line_options, script_options}
 use Rattle.nqs_qsub.specs.Tokens.{next_token, text_of}
 use Rattle.nqs_query.specs.Words.{names_of, stat_of, delete_of}
@@ -35,7 +35,7 @@ unfolding digits decimal first_other time_of size_of keyword_of step_of quoted i
     read_alone read_one_name read_value read_value_and_name read_one_request read_request_and_name last_value read_request_and_priority read_name_and_forms
     read_made_queue
     read_shape after_verb qmgr_line once with_priority with_run_limit with_pipe_only with_destination with_option options flag_of is_given is_both fresh
-    takes_value marked qsub_valued with_value one_option read_words both_options qsub_options line_kind line_end next_line line_options script_options
+    takes_value marked qsub_valued with_value one_option read_words both_options fitted qsub_options line_kind line_end next_line line_options script_options
     next_token text_of names_of stat_of delete_of for_hosts drawn drawn_from generated generated_site quoted_word word_there next_of words_from verb_of
     submit_plan qsub_plan qmgr_plan qstat_plan qdel_plan end_plan one_host fail_plan host_and_file deliver_plan newest_plan clock_plan fuse_plan show_plan
     plan_of hosts_from hosts_of verb_says words_say line_says lines_say summary_of count_line text_at text_there schedule_name_at number_at host_of host_at
