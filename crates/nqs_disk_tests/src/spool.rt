@@ -86,14 +86,14 @@ fn of_lengths(alloc: Global, longer: &[u8], longest: &[u8]) -> Option<([Put; 5],
 
 #[test]
 fn lengths(rt: HostRuntime) -> Result<(), Fail> {
-    let bytes = vec![in rt.alloc(); 5u8; 32_769]?;
-    let found = of_lengths(rt.alloc(), &bytes, &bytes[..32_768]);
+    let bytes = vec![in rt.alloc(); 5u8; 1_048_577]?;
+    let found = of_lengths(rt.alloc(), &bytes, &bytes[..1_048_576]);
     let puts = [
         Ok(at(0, 0)),
         Err(SpoolFault::TooLong),
-        Ok(at(0, 32_768)),
+        Ok(at(0, 1_048_576)),
         Ok(at(0, 0)),
-        Ok(at(32_768, 1)),
+        Ok(at(1_048_576, 1)),
     ];
     assert_eq!(rt; found, Some((puts, true)));
     Ok(())

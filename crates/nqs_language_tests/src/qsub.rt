@@ -163,9 +163,9 @@ fn finds_faults_of_the_script(rt: HostRuntime) {
 
 #[test]
 fn refuses_a_script_that_is_too_long(rt: HostRuntime) -> Result<(), Fail> {
-    let longer = vec![in rt.alloc(); b'x'; 32_769]?;
+    let longer = vec![in rt.alloc(); b'x'; 1_048_577]?;
     let found = [
-        fault(rt.alloc(), b"-nr", &longer[..32_768]),
+        fault(rt.alloc(), b"-nr", &longer[..1_048_576]),
         fault(rt.alloc(), b"-x", &longer),
     ];
     let too_long = Some((WordsCause::ScriptTooLong, 0, 0));

@@ -90,3 +90,24 @@ fn a_daemons_sender_is_noted(rt: HostRuntime) -> Result<(), Fail> {
     assert_eq!(rt; noted_sender(&rt)?, [true; 4]);
     Ok(())
 }
+
+// A large datagram comes whole, and a quiet that is due waits a tenth of a second for another one.
+fn behind_a_large_one(rt: &HostRuntime) -> Result<[bool; 4], Fail> {
+    let site = site_of_alpha(rt)?;
+    let mut daemon = UdpWire::of_daemon(*rt, &site, HOST, 20, LastSender::unnoted())?;
+    let (mut client, _) = UdpWire::of_client(*rt, &site, 20)?;
+    let mut buf = vec![in rt.alloc(); 0u8; 49_185]?;
+    let piece = vec![in rt.alloc(); 7u8; 48_021]?;
+    let sent = client.send(Address::Host(HOST), &piece) == Ok(());
+    let comes = daemon.receive(&mut buf) == Ok(Received::Datagram(48_021));
+    let began = Instant::now(rt)?;
+    let is_quiet = daemon.receive(&mut buf) == Ok(Received::Quiet);
+    let took = Instant::now(rt)?.saturating_duration_since(began);
+    Ok([sent, comes, is_quiet, took >= Duration::from_millis(50)])
+}
+
+#[test]
+fn a_quiet_waits_for_pieces(rt: HostRuntime) -> Result<(), Fail> {
+    assert_eq!(rt; behind_a_large_one(&rt)?, [true; 4]);
+    Ok(())
+}

@@ -4,6 +4,9 @@ pub mod BodyLaws
 pub mod MessageLaws
 pub mod Spelled
 pub mod SaneLaws
+pub mod Pieces
+pub mod Lengths
+pub mod Letters
 pub mod Fields
 pub mod Bodies
 pub mod FirstFaults

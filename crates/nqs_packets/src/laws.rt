@@ -2,6 +2,8 @@
 
 ghost use Rattle.nqs_packets.specs.Faults.{FirstFaults};
 ghost use Rattle.nqs_packets.specs.Messages.{ReadsTheSpelling, WhatIsReadIsSane, WhatIsReadIsShort, WhatIsSaneMaySend};
+ghost use Rattle.nqs_packets.specs.Letters.{EachLetterFits, WhatIsShortMayGo};
+ghost use Rattle.nqs_packets.specs.Messages.{WhatIsInFormMaySend, WhatIsReadIsInForm};
 
 /// Bytes are read as a message exactly where they are its spelling and it may be sent.
 pub fn reads_the_spelling()
@@ -22,6 +24,26 @@ pub fn what_is_read_is_short()
 /// code's types.
 pub fn what_is_sane_may_be_sent()
     ensures { WhatIsSaneMaySend }
+{}
+
+/// A piece that is read is in form.
+pub fn what_is_read_is_in_form()
+    ensures { WhatIsReadIsInForm }
+{}
+
+/// A piece in form may be sent, where what it says of its message is within its limits.
+pub fn what_is_in_form_may_be_sent()
+    ensures { WhatIsInFormMaySend }
+{}
+
+/// A message that may be sent may go out, in one datagram or in pieces, where its words are short.
+pub fn what_is_short_may_go()
+    ensures { WhatIsShortMayGo }
+{}
+
+/// Each datagram in which a message goes out has at most 49,152 bytes.
+pub fn each_letter_fits()
+    ensures { EachLetterFits }
 {}
 
 /// Which bytes have which first fault, apart from how they are read.

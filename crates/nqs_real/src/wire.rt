@@ -9,18 +9,28 @@ use crate::site::SiteHost;
 use libc::net::{SO_RCVBUF, SOL_SOCKET, setsockopt};
 use nqs_outside::{Address, Failed, Received, Wire};
 use nqs_types::HostId;
-use std::io;
 use std::io::ErrorKind;
 use std::net::{Ipv4Addr, SocketAddr, SocketAddrV4, UdpSocket};
 use std::os::fd::AsRawFd;
 use std::rt::HostRuntime;
 use std::time::{Duration, Instant};
+use std::{io, thread};
 
 /// A second, in milliseconds: the longest wait.
 const SECOND: u64 = 1000;
 
 /// For how many bytes of datagrams that wait to be received a socket asks: 8 MB.
 const ROOM: i32 = 8 << 20;
+
+/// A datagram of more bytes is mostly a piece of a longer message.
+const LARGE: usize = 40_000;
+
+/// The pause behind such a one that was sent, in milliseconds. A socket for which the system grants
+/// less room than it asks for holds four of them.
+const PAUSE: u64 = 5;
+
+/// How far behind one another the pieces of a message come at most, in milliseconds.
+const CLOSE: u64 = 100;
 
 // From where a socket takes datagrams.
 #[derive(Clone, Copy, Drop)]
@@ -37,7 +47,9 @@ enum Heard {
 /// what the system allows; one that finds no room is lost, as on any network. A receive waits at
 /// most until the wire's wait is over, which begins at the first receive and anew at the first one
 /// after each `Quiet`. So under any traffic a `Quiet` comes once a wait, and after it the next
-/// receive looks at the socket.
+/// receive looks at the socket. Where large datagrams come close behind one another, a `Quiet` that
+/// is due waits for them, a second at most, so that it doesn't part the pieces of a message. Behind
+/// a large one that is sent there is a short pause.
 ///
 /// A daemon's socket takes datagrams from anywhere; from where the last one came, as the system
 /// says, is noted for its operator alone. That of a client or a shepherd is connected to the place
@@ -53,6 +65,8 @@ pub struct UdpWire {
     site: Vec<SiteHost>,
     wait: Duration,
     began: Option<Instant>,
+    // When the last large datagram came, if one did since the last quiet.
+    large: Option<Instant>,
     receive_faults: u64,
     send_faults: u64,
 }
@@ -126,6 +140,7 @@ impl UdpWire {
             site,
             wait: Duration::from_millis(wait.clamp(1, SECOND)),
             began: None,
+            large: None,
             receive_faults: 0,
             send_faults: 0,
         })
@@ -180,7 +195,21 @@ impl UdpWire {
         if !self.is_taken(place, bytes)? {
             self.is_taken(place, bytes)?;
         }
+        if bytes.len() > LARGE {
+            thread::sleep(&self.rt, Duration::from_millis(PAUSE));
+        }
         Ok(())
+    }
+
+    // How long a quiet that is due waits for another large datagram, this time behind the beginning
+    // of the wait.
+    fn stays(&self, now: Instant, past: Duration) -> Option<Duration> {
+        let large = self.large?;
+        let close = Duration::from_millis(CLOSE);
+        let behind = close.checked_sub(now.saturating_duration_since(large))?;
+        let most = self.wait.saturating_add(Duration::from_millis(SECOND));
+        let rest = most.checked_sub(past)?;
+        Some(if behind < rest { behind } else { rest })
     }
 
     // What is left of the wait; none where it is over.
@@ -196,11 +225,38 @@ impl UdpWire {
                 now
             }
         };
-        let left = self.wait.checked_sub(now.saturating_duration_since(began));
-        Ok(left.filter(|left| *left >= Duration::from_millis(1)))
+        let past = now.saturating_duration_since(began);
+        let least = Duration::from_millis(1);
+        match self.wait.checked_sub(past) {
+            Some(left) if left >= least => Ok(Some(left)),
+            _ => Ok(self.stays(now, past).filter(|left| *left >= least)),
+        }
     }
 
-    // What the socket gives within this time. None: word that nobody took an earlier datagram.
+    // A datagram of so many bytes came.
+    fn note(&mut self, count: usize) -> io::Result<()>
+        ensures receive_faults { self.new.receive_faults ≡ self.old.receive_faults }
+        ensures send_faults { self.new.send_faults ≡ self.old.send_faults }
+    {
+        if count > LARGE {
+            self.large = Some(Instant::now(&self.rt)?);
+        }
+        Ok(())
+    }
+
+    // The wait is over, and the next one begins anew.
+    fn end_wait(&mut self) -> Received
+        ensures quiet { result ≡ Received.Quiet }
+        ensures receive_faults { self.new.receive_faults ≡ self.old.receive_faults }
+        ensures send_faults { self.new.send_faults ≡ self.old.send_faults }
+    {
+        self.began = None;
+        self.large = None;
+        Received::Quiet
+    }
+
+    // What the socket gives within this time. None: word that nobody took an earlier datagram, or
+    // nothing where a large one came, so that what is left is looked at anew.
     fn look(&mut self, buf: &mut [u8], left: Duration) -> io::Result<Option<Received>>
         ensures within { IfOk result (λ r. IfSome r (λ r. IsWithin r (length buf.new))) }
         ensures same_length { length buf.new ≡ length buf.old }
@@ -211,13 +267,12 @@ impl UdpWire {
         match self.socket.recv_from(buf) {
             Ok((count, from)) => {
                 self.sender.note(from);
+                self.note(count)?;
                 Ok(Some(Received::Datagram(count)))
             }
             Err(e) if e.kind() == ErrorKind::ConnectionRefused => Ok(None),
-            Err(e) if is_quiet(e.kind()) => {
-                self.began = None;
-                Ok(Some(Received::Quiet))
-            }
+            Err(e) if is_quiet(e.kind()) && self.large.is_some() => Ok(None),
+            Err(e) if is_quiet(e.kind()) => Ok(Some(self.end_wait())),
             Err(e) => Err(e),
         }
     }
@@ -237,8 +292,7 @@ impl UdpWire {
                 return Ok(received);
             }
         }
-        self.began = None;
-        Ok(Received::Quiet)
+        Ok(self.end_wait())
     }
 }
 

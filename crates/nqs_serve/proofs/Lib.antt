@@ -14,4 +14,5 @@ mod Passing
 mod Leaving
 pub mod Moments
 mod Sorting
+mod Gathers
 mod Sampled

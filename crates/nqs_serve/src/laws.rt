@@ -4,6 +4,7 @@ ghost use Rattle.std.specs.Prelude.{◌≡◌, [], ◌∷◌};
 ghost use Rattle.nqs_types.specs.declared.event.Event.TheVariants.{Arrived};
 ghost use Rattle.nqs_types.specs.declared.message.Body.TheVariants.{Done};
 ghost use Rattle.nqs_packets.specs.declared.fault.PacketFault.TheVariants.{Short, Version};
+ghost use Rattle.nqs_serve.specs.Gathers.{HeardAsSorted, MadeAsSorted};
 ghost use Rattle.nqs_serve.specs.Runs.{RunsAreFolds};
 ghost use Rattle.nqs_serve.specs.Sorted.{sorted, SortedOneWay, EventsAreTaken};
 ghost use Rattle.nqs_serve.specs.Samples.{done_by, done_from, one_of_two};
@@ -22,9 +23,21 @@ pub fn datagrams_are_sorted_one_way()
     ensures { SortedOneWay }
 {}
 
-/// A datagram is sorted as an event exactly where the daemon takes one of it, and as just that one.
+/// Bytes are sorted as an event exactly where they are one, as a message of their own, and as just
+/// that one.
 pub fn sorted_events_are_taken()
     ensures { EventsAreTaken }
+{}
+
+/// A datagram that is no piece is to the daemon just what it is sorted as.
+pub fn datagrams_are_heard_as_sorted()
+    ensures { HeardAsSorted }
+{}
+
+/// What pieces made is to the daemon just what it is sorted as, where it is the message that these
+/// say.
+pub fn made_messages_are_heard_as_sorted()
+    ensures { MadeAsSorted }
 {}
 
 /// DONE of handover 1 from host 1 to host 0, of two: an event there and nowhere else. From a host

@@ -19,7 +19,8 @@ pub fn roots_name_journals()
     ensures resting { map resting ([] ∷ (0 ∷ []) ∷ (1 ∷ []) ∷ (2 ∷ 1 ∷ []) ∷ (7 ∷ []) ∷ []) ≡ Second ∷ Second ∷ First ∷ Second ∷ First ∷ [] }
     ensures turned { map turned ([] ∷ (0 ∷ []) ∷ (1 ∷ []) ∷ (7 ∷ 5 ∷ []) ∷ (254 ∷ 5 ∷ 6 ∷ []) ∷ [])
         ≡ (1 ∷ []) ∷ (1 ∷ []) ∷ (0 ∷ []) ∷ (0 ∷ 5 ∷ []) ∷ (1 ∷ 5 ∷ 6 ∷ []) ∷ [] }
-    ensures due { map is_due (0 ∷ 4095 ∷ 4096 ∷ 4097 ∷ []) ≡ false ∷ false ∷ true ∷ true ∷ [] }
+    ensures due { map (is_due false) (0 ∷ 4095 ∷ 4096 ∷ 4097 ∷ []) ++ map (is_due true) (0 ∷ 4095 ∷ 4096 ∷ [])
+        ≡ false ∷ false ∷ true ∷ true ∷ true ∷ true ∷ true ∷ [] }
     ensures same { map (names_same []) ((4 ∷ []) ∷ (1 ∷ []) ∷ []) ++ map (names_same (1 ∷ [])) ((0 ∷ []) ∷ (255 ∷ []) ∷ [] ∷ [])
         ≡ true ∷ false ∷ false ∷ true ∷ false ∷ [] }
 {}
