@@ -41,7 +41,7 @@ impl Disk {
 fn append_payloads(count: u64) -> usize {
     let payload = [7u8; 100];
     let mut disk = Disk::default();
-    disk.write_at(0, b"NQS-JOURNAL-v1\n\n\0");
+    disk.write_at(0, b"NQS-JOURNAL-v2\n\n\0");
     disk.sync();
     let mut gate = 16u64;
     let mut buffer = Vec::with_capacity(65_541);

@@ -11,6 +11,8 @@ import time
 TOP = os.path.dirname(os.path.dirname(os.path.abspath(__file__)))
 # More turns than any trial takes.
 TURNS = "1000000000000"
+# The pause behind a datagram above 40,000 bytes, in seconds: the least that a socket holds is four.
+PAUSE = 0.005
 
 
 def built(name="nqs_replay"):
@@ -93,6 +95,21 @@ def opened(datagram, key):
     return text if datagram == sealed(text, key) else None
 
 
+def piece(kind, port, number, index, count, part, ends=(0, 0)):
+    """A datagram with a part of a message of this kind."""
+    head = struct.pack(">BBBBBHQBB", 2, 14, *ends, kind, port, number, index, count)
+    return head + struct.pack(">I", len(part)) + part
+
+
+def datagrams(text, kind, port, number):
+    """A message as it is sent: whole, or in pieces of 48,000 bytes where it is longer than a
+    datagram."""
+    if len(text) <= 49152:
+        return [text]
+    parts = [text[at:at + 48000] for at in range(0, len(text), 48000)]
+    return [piece(kind, port, number, index, len(parts), part) for index, part in enumerate(parts)]
+
+
 class Client:
     """A client that stays: it asks the daemon of the host at a place of the site by datagrams, which
     have a tag where there is a key."""
@@ -113,7 +130,10 @@ class Client:
         for word in words:
             text += struct.pack(">I", len(word)) + word
         text += struct.pack(">I", len(script)) + script
-        self.socket.sendto(sealed(text, self.key), self.daemon)
+        for datagram in datagrams(text, 10, self.port, self.token):
+            self.socket.sendto(sealed(datagram, self.key), self.daemon)
+            if len(datagram) > 40000:
+                time.sleep(PAUSE)
         while True:
             try:
                 answer = opened(self.socket.recv(65536), self.key)

@@ -192,16 +192,17 @@ fn waits_ten_times(rt: HostRuntime) -> Result<(), Fail> {
     Ok(())
 }
 
-// Whether a submission of this script ends so, and how many calls of the wire there were, and
-// receives among them.
+// Whether a submission of a script of so many bytes ends so, and how many calls of the wire there
+// were, and receives among them.
 fn submits(
     alloc: Global,
-    script: &[u8],
+    count: usize,
     end: (NqsStatus, &[u8]),
 ) -> Result<(bool, [usize; 2]), Memory> {
+    let script = vec![in alloc; 35u8; count]?;
     let mut wire = wire(alloc, &[&ANSWER])?;
     let errand = errand(alloc, "qsub", &["ann"])?;
-    let ended = ends(alloc, errand, script, &mut wire, end);
+    let ended = ends(alloc, errand, &script, &mut wire, end);
     let receives = wire.kept().iter().filter(|kept| is_receive(kept)).count();
     let counts = [wire.kept().len(), receives];
     drop(wire);
@@ -211,11 +212,32 @@ fn submits(
 #[test]
 fn refuses_a_long_script(rt: HostRuntime) -> Result<(), Fail> {
     let alloc = rt.alloc();
-    let script = [35u8; 32_769];
     let text = b"Bad word 0: script too long\n";
-    let taken = submits(alloc, &script[..32_768], (NqsStatus::Done, b"ok\n"))?;
-    let refused = submits(alloc, &script, (NqsStatus::Refused, text))?;
-    assert_eq!(rt; [taken, refused], [(true, [2, 1]), (true, [0, 0])]);
+    let whole = submits(alloc, 49_127, (NqsStatus::Done, b"ok\n"))?;
+    let two = submits(alloc, 49_128, (NqsStatus::Done, b"ok\n"))?;
+    let most = submits(alloc, 1_048_576, (NqsStatus::Done, b"ok\n"))?;
+    let refused = submits(alloc, 1_048_577, (NqsStatus::Refused, text))?;
+    assert_eq!(rt; [whole, two], [(true, [2, 1]), (true, [3, 1])]);
+    assert_eq!(rt; [most, refused], [(true, [23, 1]), (true, [0, 0])]);
+    Ok(())
+}
+
+// A failed send of a piece ends the client, and no further piece is sent.
+#[test]
+fn fails_with_a_piece(rt: HostRuntime) -> Result<(), Fail> {
+    let alloc = rt.alloc();
+    let script = vec![in alloc; 35u8; 100_000]?;
+    let mut counts = [0usize; 3];
+    for (place, count) in counts.iter_mut().enumerate() {
+        let sends = Vec::from_slice(alloc, &[place as u64 + 1])?;
+        let mut wire = MemWire::new(alloc, Items::new(alloc), Vec::new(alloc), sends);
+        let errand = errand(alloc, "qsub", &["ann"])?;
+        let end = (NqsStatus::WireFault, b"".as_slice());
+        let ended = ends(alloc, errand, &script, &mut wire, end);
+        assert!(rt; ended);
+        *count = wire.kept().len();
+    }
+    assert_eq!(rt; counts, [1, 2, 3]);
     Ok(())
 }
 

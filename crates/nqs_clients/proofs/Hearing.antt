@@ -66,14 +66,14 @@ pub hears_none : (host : HostId) (was now : Option (List Traffic)) (n : ℕ) →
 hears_none host was now n all so_far = (so_far.0, so_far.1, (so_far.3 ∙ all, so_far.2))
 
 -- a wait behind the ask
-behind : (ask : Traffic) (host : HostId) (was mid now : Option (List Traffic)) (result : Result (Option Answer) WaitStop)
-    → Extends was mid (ask ∷ []) → Hears [] host mid now result → Hears (ask ∷ []) host was now result
-behind ask host was mid now result sent heard = (heard.0, extends_then was mid now (ask ∷ []) (map inbound heard.0) sent heard.1, heard.2)
+behind : (ask : List Traffic) (host : HostId) (was mid now : Option (List Traffic)) (result : Result (Option Answer) WaitStop)
+    → Extends was mid ask → Hears [] host mid now result → Hears ask host was now result
+behind ask host was mid now result sent heard = (heard.0, extends_then was mid now ask (map inbound heard.0) sent heard.1, heard.2)
 
 -- the ask went out, and the wait ended so
 pub exchanged : (port : ℕ) (host : HostId) (e : Asking) (script : List ℕ) (wire : Wired) (mid : Option (List Traffic))
     (result : Result (Option Answer) WaitStop)
-    → Extends wire.traffic mid (asked port host e script ∷ []) → Hears [] host mid wire.traffic_now result
+    → Extends wire.traffic mid (asked port host e script) → Hears [] host mid wire.traffic_now result
     → StopsFor wire.receive_faults wire.receive_faults_now result → wire.send_faults_now ≡ wire.send_faults → Exchanges port host e script wire result
 exchanged port host e script wire mid (Ok answer) sent heard cause went = (behind _ host wire.traffic mid _ (Ok answer) sent heard, (cause, went))
 exchanged port host e script wire mid (Err stop.Fault) sent heard cause went =

@@ -1,12 +1,13 @@
 -- Words that are short enough may be sent.
-use Rattle.std.proofs.Common.{◌≡◌, ℕ, ◌+◌, ◌<◌, ◌≤◌, ◌^◌, true, List, [], ◌∷◌, length, length-append, refl, subst, lit<, arith}
+use Rattle.std.proofs.Common.{◌≡◌, ℕ, ◌+◌, ◌<◌, ◌≤◌, ◌^◌, true, nat_le, List, [], ◌∷◌, length, length-append, refl, subst, lit<, arith}
 use Rattle.std.specs.List.{AllByRecursion, sum_by, flat_map}
 use Rattle.std.specs.declared.option.Option.TheVariants.{Some}
-use Rattle.std.proofs.lemmas.Bool.{leb-true}
+use Rattle.std.proofs.lemmas.Bool.{leb-true, le-leb}
 use Rattle.std.proofs.lemmas.List.Sums.{sum_by-cons}
 use Rattle.nqs_types.specs.declared.message.Tool.{Tool}
 use Rattle.nqs_types.specs.declared.message.Tool.TheVariants.{Qsub, Qstat, Qdel, Qmgr, Tick}
 use Rattle.nqs_codec.specs.Takes.{IsLong}
+use Rattle.nqs_packets.specs.Letters.{words_length}
 use Rattle.nqs_packets.specs.Values.{AreWords}
 use Rattle.nqs_clients.specs.Errand.{joined, words_of, are_short}
 
@@ -49,3 +50,15 @@ may_words Qdel own ws short same = let may = own_words own short in subst (AreWo
 may_words Qmgr own ws short same = subst (AreWords Qmgr) (some_words (joined own ∷ []) ws same) ((refl, lit< tt), (long_line own (leb-true _ _ short), tt))
 may_words Tick [] ws short same = subst (AreWords Tick) (some_words [] ws same) ((refl, lit< tt), tt)
 may_words Tick (w ∷ own) ws short same = absurd (let impossible : ⊥ = cc in impossible)
+
+pub few_words : (tool : Tool) (own ws : List (List ℕ)) → are_short own ≡ true → words_of tool own ≡ Some ws → nat_le (words_length ws) 4004 ≡ true
+few_words tool own ws short same = le-leb (words_length ws) 4004 (by tool own same (leb-true _ _ short))
+  where
+    by : (t : Tool) (os : List (List ℕ)) → words_of t os ≡ Some ws → taken os ≤ 4000 → words_length ws ≤ 4004
+    by Qsub os is few = subst (λ l. words_length l ≤ 4004) (some_words os ws is) (omega (arith, few))
+    by Qstat os is few = subst (λ l. words_length l ≤ 4004) (some_words os ws is) (omega (arith, few))
+    by Qdel os is few = subst (λ l. words_length l ≤ 4004) (some_words os ws is) (omega (arith, few))
+    by Qmgr os is few =
+        subst (λ l. words_length l ≤ 4004) (some_words (joined os ∷ []) ws is) (omega (arith, few, taken_cons (joined os) [], joined_few os))
+    by Tick [] is few = subst (λ l. words_length l ≤ 4004) (some_words [] ws is) (omega arith)
+    by Tick (w ∷ os) is few = absurd (let impossible : ⊥ = cc in impossible)

@@ -7,6 +7,7 @@ use Rattle.nqs_outside.specs.declared.whole.ReadStop.{ReadStop}
 use Rattle.nqs_outside.specs.declared.whole.ReadStop.TheVariants as read
 use Rattle.nqs_outside.specs.Causes.{Rose}
 use Rattle.nqs_outside.specs.Streams.{Fed, IsUnread, ReadsWhole, ReadsTooMuch, Sunk}
+use Rattle.nqs_types.specs.Scripts.{longest_script}
 use Rattle.nqs_types.specs.declared.ids.HostId.{HostId}
 use Rattle.nqs_types.specs.declared.event.Reply.TheVariants.{UnreadWords}
 use Rattle.nqs_types.specs.declared.fault.WordsFault.{WordsFault}
@@ -32,14 +33,14 @@ too_long_text = reply_text [] (UnreadWords too_long)
 
 -- the source is read for qsub alone
 abbrev pub HasScript : Tool → Fed → List ℕ → Type 0
-HasScript Qsub source script = ReadsWhole 32768 source script
+HasScript Qsub source script = ReadsWhole longest_script source script
 HasScript _ source script = IsUnread source × (script ≡ [])
 
 -- what comes of a source by reading it
 abbrev pub TakesScript : Tool → Fed → Result (Vec ℕ) ReadStop → Type 0
 TakesScript tool source (Ok script) = HasScript tool source script.items
 TakesScript tool source (Err read.Fault) = (tool ≡ Qsub) × Rose source.faults source.faults_now
-TakesScript tool source (Err read.TooLong) = (tool ≡ Qsub) × ReadsTooMuch 32768 source
+TakesScript tool source (Err read.TooLong) = (tool ≡ Qsub) × ReadsTooMuch longest_script source
 TakesScript tool source (Err (read.Memory memory)) = Unit {0}
 
 -- An answer was written whole, and it ends as the answer says; or a front of it was.
@@ -71,7 +72,7 @@ EndsScripted port host e source wire sink result = (script : List ℕ) × HasScr
 
 -- the script of a submission is too long, and nothing is sent
 abbrev pub IsTooLong : Asking → Fed → Wired → Type 0
-IsTooLong e source wire = (e.tool ≡ Qsub) × ReadsTooMuch 32768 source × IsSilent wire
+IsTooLong e source wire = (e.tool ≡ Qsub) × ReadsTooMuch longest_script source × IsSilent wire
 
 -- it is refused with the line that says so, or a front of that was written
 abbrev pub EndsRefused : Asking → Fed → Wired → Sunk → NqsStatus → Type 0

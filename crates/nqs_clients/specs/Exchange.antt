@@ -1,5 +1,5 @@
 -- What the client sends to the host, and what comes of it.
-use Rattle.std.specs.Prelude.{◌≡◌, ℕ, ◌≤◌, ◌⊎◌, Bool, false, ◌==◌, List, [], ◌∷◌, ◌++◌, length, map, if◌then◌else◌, Ok, Err}
+use Rattle.std.specs.Prelude.{◌≡◌, ℕ, ◌+◌, ◌<◌, ◌≤◌, ◌⊎◌, Bool, false, ◌==◌, List, ◌++◌, length, map, take, if◌then◌else◌, Ok, Err}
 use Rattle.std.specs.List.{list_any}
 use Rattle.std.specs.Option.{is_some}
 use Rattle.std.specs.declared.option.Option.{Option}
@@ -9,11 +9,13 @@ use Rattle.nqs_types.specs.declared.ids.HostId.{HostId}
 use Rattle.nqs_types.specs.declared.message.Body.{Body}
 use Rattle.nqs_types.specs.declared.message.Body.TheVariants as body
 use Rattle.nqs_types.specs.declared.message.Message.{Message}
-use Rattle.nqs_outside.specs.Asked.{Arrival, Traffic, inbound, outbound}
+use Rattle.nqs_outside.specs.Asked.{Arrival, packet, Traffic, inbound, outbound}
 use Rattle.nqs_outside.specs.Causes.{Rose}
 use Rattle.nqs_outside.specs.Told.{Extends}
+use Rattle.nqs_outside.specs.declared.wire.Address.TheVariants.{Host}
+use Rattle.nqs_packets.specs.Letters.{letters_of}
 use Rattle.nqs_clients.specs.Asking.{Asking}
-use Rattle.nqs_clients.specs.Datagrams.{message_in, datagram, UpTo}
+use Rattle.nqs_clients.specs.Datagrams.{message_in, at_home, UpTo}
 use Rattle.nqs_clients.specs.Sides.{Wired, IsSilent, NoneFailed}
 use Rattle.nqs_clients.specs.declared.answer.Answer.{Answer}
 use Rattle.nqs_clients.specs.declared.datagram.WaitStop.{WaitStop}
@@ -45,9 +47,13 @@ answer_in host arrival = answer_of host (message_in arrival)
 abbrev pub answers : HostId → Arrival → Bool
 answers host arrival = is_some (answer_in host arrival)
 
--- the datagram that asks
-abbrev pub asked : ℕ → HostId → Asking → List ℕ → Traffic
-asked port host e script = outbound (datagram host (ask_of port e script))
+-- datagrams to a host, as they pass the wire
+abbrev pub sends : HostId → List (List ℕ) → List Traffic
+sends host letters = map (λ letter. outbound (packet (Host host) letter)) letters
+
+-- the datagrams that ask, in order: one, or its pieces' where it is longer
+abbrev pub asked : ℕ → HostId → Asking → List ℕ → List Traffic
+asked port host e script = sends host (letters_of (at_home host (ask_of port e script)))
 
 -- At most ten receives were made, up to the first that brought the answer. One that was read is
 -- given: memory may be wanting to read the last that came, and for nothing else.
@@ -64,11 +70,15 @@ Hears sends host was now result = (arrivals : List Arrival) × Extends was now (
 
 -- the ask was sent, then the wait was made, and it ended so
 abbrev pub Asks : ℕ → HostId → Asking → List ℕ → Wired → Result (Option Answer) WaitStop → Type 0
-Asks port host e script wire result = Hears (asked port host e script ∷ []) host wire.traffic wire.traffic_now result
+Asks port host e script wire result = Hears (asked port host e script) host wire.traffic wire.traffic_now result
 
--- the send failed, and nothing was received
+-- of datagrams that were to be sent one failed, behind which none was sent
+abbrev pub FailsAmong : List Traffic → Option (List Traffic) → Option (List Traffic) → Type 0
+FailsAmong all was now = (n : ℕ) × (n < length all) × Extends was now (take (n + 1) all)
+
+-- a send failed, and nothing was received
 abbrev pub SendFailed : ℕ → HostId → Asking → List ℕ → Wired → Type 0
-SendFailed port host e script wire = Extends wire.traffic wire.traffic_now (asked port host e script ∷ []) × Rose wire.send_faults wire.send_faults_now
+SendFailed port host e script wire = FailsAmong (asked port host e script) wire.traffic wire.traffic_now × Rose wire.send_faults wire.send_faults_now
     × (wire.receive_faults_now ≡ wire.receive_faults)
 
 -- the ask went out, and a receive failed
@@ -76,8 +86,8 @@ abbrev pub ReceiveFailed : ℕ → HostId → Asking → List ℕ → Wired → 
 ReceiveFailed port host e script wire = Asks port host e script wire (Err Fault) × Rose wire.receive_faults wire.receive_faults_now
     × (wire.send_faults_now ≡ wire.send_faults)
 
--- The ask went out, and this is what came of it; or a call of the wire failed, or there was no
--- memory for the ask.
+-- The ask went out, whole or as its pieces, and this is what came of it; or a call of the wire
+-- failed, or there was no memory for the ask.
 abbrev pub Exchanges : ℕ → HostId → Asking → List ℕ → Wired → Result (Option Answer) WaitStop → Type 0
 Exchanges port host e script wire (Ok answer) = Asks port host e script wire (Ok answer) × NoneFailed wire
 Exchanges port host e script wire (Err Fault) = SendFailed port host e script wire ⊎ ReceiveFailed port host e script wire

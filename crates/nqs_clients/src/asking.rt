@@ -1,6 +1,7 @@
 //! The client of the commands: it asks the host what its words say, and writes the answer.
 
 ghost use Rattle.std.specs.Prelude.{◌≡◌, ◌≤◌, length};
+ghost use Rattle.nqs_types.specs.Scripts.{longest_script};
 ghost use Rattle.nqs_outside.specs.Streams.{fed, sunk};
 ghost use Rattle.nqs_records.specs.Values.{IsHost};
 ghost use Rattle.nqs_clients.specs.Client.{EndsAsking, EndsFor, EndsWriting, TakesScript};
@@ -11,14 +12,14 @@ use crate::errand::Errand;
 use crate::exchange::exchange;
 use crate::status::NqsStatus;
 use nqs_outside::{ReadStop, Sink, Source, Wire, read_whole, write_whole};
-use nqs_types::{HostId, Tool};
+use nqs_types::{HostId, LONGEST_SCRIPT, Tool};
 use std::alloc::Global;
 
 // The line that refuses a longer script.
 const TOO_LONG: &[u8] = b"Bad word 0: script too long\n";
 
 // The greatest length of a script.
-const LONGEST_SCRIPT: usize = 32_768;
+const LONGEST: usize = LONGEST_SCRIPT as usize;
 
 // Writes an answer, and ends as it says.
 fn write_answer<K: Sink>(ok: bool, text: &[u8], out: &mut K) -> NqsStatus
@@ -40,7 +41,7 @@ fn take_script<S: Source>(alloc: Global, tool: Tool, input: &mut S) -> Result<Ve
     if tool != Tool::Qsub {
         return Ok(Vec::new(alloc));
     }
-    read_whole(alloc, input, LONGEST_SCRIPT)
+    read_whole(alloc, input, LONGEST)
 }
 
 // Asks the host, and writes its answer.
@@ -54,7 +55,7 @@ fn ask<W: Wire, K: Sink>(
     out: &mut K,
 ) -> NqsStatus
     requires host { IsHost host }
-    requires short { length script.items ≤ 32768 }
+    requires short { length script.items ≤ longest_script }
     ensures { EndsAsking port host errand script.items (wired W.traffic W.receive_faults W.send_faults wire.old wire.new)
         (sunk K.taken K.faults K.stalls out.old out.new) result }
 {
@@ -67,8 +68,8 @@ fn ask<W: Wire, K: Sink>(
     }
 }
 
-/// Does an errand at a host. It sends one ask to it, whose answer comes to this port, and writes
-/// the answer's text. The script of a submission is the input.
+/// Does an errand at a host. It sends one ask to it, whole or as its pieces, whose answer comes to
+/// this port, and writes the answer's text. The script of a submission is the input.
 pub fn client<W: Wire, S: Source, K: Sink>(
     alloc: Global,
     host: HostId,

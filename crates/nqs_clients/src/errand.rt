@@ -1,7 +1,8 @@
 //! What the words of a client ask for: the tool, the user, and the tool's own words.
 
-ghost use Rattle.std.specs.Prelude.{◌≡◌, ◌+◌, ◌∷◌, ◌++◌, [], true, OnOk, nat_le, length, map, string_bytes, IfOk};
+ghost use Rattle.std.specs.Prelude.{◌≡◌, ◌+◌, ◌∷◌, ◌++◌, [], true, IsTrue, OnOk, nat_le, length, map, string_bytes, IfOk};
 ghost use Rattle.std.specs.List.{sum_by, flat_map};
+ghost use Rattle.nqs_packets.specs.Letters.{words_length};
 ghost use Rattle.nqs_packets.specs.Values.{AreWords};
 ghost use Rattle.nqs_clients.specs.Errand.{tool_of, joined, words_of, are_short, made_of, errand_of, ReadsErrand};
 
@@ -12,7 +13,7 @@ use std::alloc::Global;
 use std::marker::Model;
 
 /// What a host is asked: for whom, by which tool, and the tool's words as they are sent. They may
-/// be sent.
+/// be sent and are short.
 #[derive(Drop)]
 pub struct Errand {
     user: Name,
@@ -21,6 +22,8 @@ pub struct Errand {
 }
 
 impl Model for Errand {
+    ghost use Rattle.std.specs.Prelude.{IsTrue, nat_le};
+    ghost use Rattle.nqs_packets.specs.Letters.{words_length};
     ghost use Rattle.nqs_packets.specs.Values.{AreWords};
     ghost use Rattle.nqs_clients.specs.Asking.{Asking, asking};
 
@@ -28,7 +31,7 @@ impl Model for Errand {
 
     ghost view = { λ e. asking e.user e.tool e.words };
 
-    ghost invariant = { λ e. AreWords e.tool e.words };
+    ghost invariant = { λ e. AreWords e.tool e.words × IsTrue (nat_le (words_length e.words) 4004) };
 }
 
 impl Errand {
@@ -45,6 +48,7 @@ impl Errand {
         ensures tool { result.1 ≡ self.tool }
         ensures words { result.2 ≡ self.words }
         ensures may { AreWords result.1 result.2 }
+        ensures few { IsTrue (nat_le (words_length result.2) 4004) }
     {
         let Errand { user, tool, words } = self;
         (user, tool, words)

@@ -1,34 +1,38 @@
 //! The client asks a host, and waits for the answer.
 
-ghost use Rattle.std.specs.Prelude.{◌≡◌, ◌≤◌, length, [], IfOk};
-ghost use Rattle.nqs_packets.specs.Spelling.{spelling};
+ghost use Rattle.std.specs.Prelude.{◌≡◌, ◌≤◌, length, [], IfOk, OnErr, OnOk};
+ghost use Rattle.nqs_types.specs.Scripts.{longest_script};
+ghost use Rattle.nqs_outside.specs.Causes.{Rose};
+ghost use Rattle.nqs_outside.specs.Told.{Extends};
+ghost use Rattle.nqs_packets.specs.Letters.{letters_of};
 ghost use Rattle.nqs_clients.specs.Datagrams.{at_home, Receives, StopsFor};
 ghost use Rattle.nqs_records.specs.Values.{IsHost};
-ghost use Rattle.nqs_clients.specs.Exchange.{ask_of, answer_of, answer_in, Hears, Exchanges};
+ghost use Rattle.nqs_clients.specs.Exchange.{ask_of, answer_of, answer_in, sends, FailsAmong, Hears, Exchanges};
 ghost use Rattle.nqs_clients.specs.Sides.{wired};
 
 use crate::answer::Answer;
-use crate::datagram::{WaitStop, receive_message, spelled};
+use crate::datagram::{WaitStop, receive_message};
 use crate::errand::Errand;
 use nqs_base::{Bytes, Memory, name_stands};
-use nqs_outside::{Address, Wire};
+use nqs_outside::{Address, Failed, Wire};
+use nqs_packets::letters_of;
 use nqs_types::{Body, HostId, Message};
 use std::alloc::Global;
 
 // The token of the one ask.
 const TOKEN: u64 = 5;
 
-// The bytes of what the host is asked.
+// The datagrams of what the host is asked.
 fn spelled_ask(
     alloc: Global,
     port: u16,
     host: HostId,
     errand: Errand,
     script: Vec<u8>,
-) -> Result<Vec<u8>, Memory>
+) -> Result<Vec<Bytes>, Memory>
     requires host { IsHost host }
-    requires short { length script.items ≤ 32768 }
-    ensures { IfOk result (λ bytes. bytes.items ≡ spelling (at_home host (ask_of port errand script.items))) }
+    requires short { length script.items ≤ longest_script }
+    ensures { IfOk result (λ letters. letters.items ≡ letters_of (at_home host (ask_of port errand script.items))) }
 {
     let (user, tool, words) = errand.into_parts();
     name_stands(&user);
@@ -44,7 +48,23 @@ fn spelled_ask(
             script: Bytes::from_vec(script),
         },
     };
-    spelled(alloc, &message)
+    letters_of(alloc, &message)
+}
+
+// Sends the datagrams to the host, one after the other, up to one that fails.
+fn send_all<W: Wire>(host: HostId, letters: &[Bytes], wire: &mut W) -> Result<(), Failed>
+    ensures sent { OnOk result (Extends (W.traffic wire.old) (W.traffic wire.new) (sends host letters.now)) }
+    ensures uncounted { OnOk result (W.send_faults wire.new ≡ W.send_faults wire.old) }
+    ensures failed { OnErr result (FailsAmong (sends host letters.now) (W.traffic wire.old) (W.traffic wire.new)
+        × Rose (W.send_faults wire.old) (W.send_faults wire.new)) }
+    ensures receive_faults { W.receive_faults wire.new ≡ W.receive_faults wire.old }
+{
+    for place in 0..letters.len() {
+        if let Err(failed) = wire.send(Address::Host(host), letters[place].as_slice()) {
+            return Err(failed);
+        }
+    }
+    Ok(())
 }
 
 // The answer of the host, if the message is it.
@@ -103,7 +123,7 @@ fn await_answer<W: Wire>(
     Ok(None)
 }
 
-/// Asks the host, and waits for its answer.
+/// Asks the host, and waits for its answer. Nothing is sent before all datagrams are spelled.
 pub(crate) fn exchange<W: Wire>(
     alloc: Global,
     port: u16,
@@ -113,14 +133,14 @@ pub(crate) fn exchange<W: Wire>(
     wire: &mut W,
 ) -> Result<Option<Answer>, WaitStop>
     requires host { IsHost host }
-    requires short { length script.items ≤ 32768 }
+    requires short { length script.items ≤ longest_script }
     ensures { Exchanges port host errand script.items (wired W.traffic W.receive_faults W.send_faults wire.old wire.new) result }
 {
     let asked = match spelled_ask(alloc, port, host, errand, script) {
         Ok(asked) => asked,
         Err(memory) => return Err(WaitStop::Memory(memory)),
     };
-    match wire.send(Address::Host(host), &asked) {
+    match send_all(host, &asked, wire) {
         Ok(()) => await_answer(alloc, host, wire),
         Err(_) => Err(WaitStop::Fault),
     }

@@ -17,46 +17,60 @@ use std::test::Fail;
 struct Form {
     /// 0 where there is no snapshot.
     version: u8,
+    is_old: bool,
     header: &'static [u8],
     snapshot: &'static [u8],
 }
 
 const LONG: [u8; 300] = [7; 300];
 
-/// Without a snapshot, and by the header of each version with snapshots of 0, 1 and 300 bytes.
-static FORMS: [Form; 7] = [
+/// By the header of each version, without a snapshot and with snapshots of 0, 1 and 300 bytes.
+static FORMS: [Form; 8] = [
     Form {
         version: 0,
+        is_old: true,
         header: b"NQS-JOURNAL-v1\n\n",
         snapshot: b"",
     },
     Form {
+        version: 0,
+        is_old: false,
+        header: b"NQS-JOURNAL-v2\n\n",
+        snapshot: b"",
+    },
+    Form {
         version: 1,
+        is_old: true,
         header: b"NQS-SNAPSHOT-v1\n\0\0\0\0\0\0\0\0",
         snapshot: b"",
     },
     Form {
         version: 1,
+        is_old: true,
         header: b"NQS-SNAPSHOT-v1\n\0\0\0\0\0\0\0\x01",
         snapshot: b"x",
     },
     Form {
         version: 1,
+        is_old: true,
         header: b"NQS-SNAPSHOT-v1\n\0\0\0\0\0\0\x01\x2c",
         snapshot: &LONG,
     },
     Form {
         version: 2,
+        is_old: false,
         header: b"NQS-SNAPSHOT-v2\n\0\0\0\0\0\0\0\0",
         snapshot: b"",
     },
     Form {
         version: 2,
+        is_old: false,
         header: b"NQS-SNAPSHOT-v2\n\0\0\0\0\0\0\0\x01",
         snapshot: b"x",
     },
     Form {
         version: 2,
+        is_old: false,
         header: b"NQS-SNAPSHOT-v2\n\0\0\0\0\0\0\x01\x2c",
         snapshot: &LONG,
     },
@@ -87,6 +101,28 @@ fn reads_as(alloc: Global, bytes: &[u8], form: &Form, payloads: &[&[u8]]) -> Res
     let version = read_either(alloc, &mut disk, &mut snapshot, &mut found)?;
     let told = version == form.version && snapshot[0] == 9;
     Ok(told && &snapshot[1..] == form.snapshot && has(&found, payloads))
+}
+
+// Whether a journal of a disk that was stopped is told to be old as the form is.
+fn ages_as(alloc: Global, bytes: &[u8], form: &Form) -> Result<bool, Fail> {
+    let disk = disk_of(alloc, bytes)?.crash(Tear::New)?;
+    let mut snapshot = Vec::new(alloc);
+    let mut found = Vec::new(alloc);
+    let Ok((journal, version)) = Journal::load_either(alloc, disk, &mut snapshot, &mut found) else {
+        return Err("load")?;
+    };
+    Ok(version == form.version && journal.is_old() == form.is_old)
+}
+
+#[test]
+fn tells_old_texts(rt: HostRuntime) -> Result<(), Fail> {
+    let alloc = rt.alloc();
+    for form in &FORMS {
+        let text = text_of(alloc, form, RECORDS[2])?;
+        let told = ages_as(alloc, &text, form)?;
+        assert!(rt; told);
+    }
+    Ok(())
 }
 
 #[test]
@@ -162,7 +198,7 @@ fn refuses_what_is_cut_short(rt: HostRuntime) -> Result<(), Fail> {
 }
 
 /// Bytes that stand for nothing, and the place at which they are refused.
-static REFUSED: [(&[u8], u64); 20] = [
+static REFUSED: [(&[u8], u64); 23] = [
     (b"nQS-JOURNAL-v1\n\n\0", 0),
     (b"nQS-SNAPSHOT-v1\n\0\0\0\0\0\0\0\0\0", 0),
     // The fifth byte tells the headers apart.
@@ -181,7 +217,11 @@ static REFUSED: [(&[u8], u64); 20] = [
     // The fifteenth byte tells the versions of snapshots apart.
     (b"NQS-SNAPSHOT-v0\n\0\0\0\0\0\0\0\0\0", 14),
     (b"NQS-SNAPSHOT-v3\n\0\0\0\0\0\0\0\0\0", 14),
-    (b"NQS-JOURNAL-v2\n\n\0", 13),
+    (b"NQS-JOURNAL-v0\n\n\0", 13),
+    (b"NQS-JOURNAL-v3\n\n\0", 13),
+    (b"NQS-JOURNAL-v2\n.\0", 15),
+    // A snapshot's line, and one of the journal without a snapshot.
+    (b"NQS-JOURNAL-v2\n\0\0\0\0\0\0\0\0\0", 15),
     (b"NQS-SNAPSHOT-v2.\0\0\0\0\0\0\0\0\0", 15),
     // A second line's end, as the journal without a snapshot has it.
     (b"NQS-SNAPSHOT-v2\n\n\0\0\0\0\0\0\0\0", 16),

@@ -176,7 +176,7 @@ fn stops_within_a_format(rt: HostRuntime) -> Result<(), Fail> {
 
 /// The journal of host alpha in the site of alpha alone, byte by byte: header, gate, length, the
 /// record of the site, gate.
-static ALPHA: [u8; 31] = *b"NQS-JOURNAL-v1\n\n\x01\0\0\0\x09\x01\0\x01\x05alpha\0";
+static ALPHA: [u8; 31] = *b"NQS-JOURNAL-v2\n\n\x01\0\0\0\x09\x01\0\x01\x05alpha\0";
 
 pub(crate) fn disk_of(alloc: Global, bytes: &[u8]) -> Result<MemDisk, Fail> {
     let mut disk = MemDisk::new(alloc);
@@ -213,9 +213,13 @@ fn reads_by_the_gate(rt: HostRuntime) -> Result<(), Fail> {
     let alloc = rt.alloc();
     let mut open = ALPHA;
     open[16] = 7;
+    // The header of the version before.
+    let mut old = ALPHA;
+    old[13] = b'1';
     let closed = payloads_are(alloc, &ALPHA, &[&ALPHA[21..30]])?;
     let [none, _] = payloads_are(alloc, &open, &[])?;
-    assert_eq!(rt; (closed, none), ([true, true], true));
+    let read = payloads_are(alloc, &old, &[&ALPHA[21..30]])?;
+    assert_eq!(rt; (closed, none, read), ([true, true], true, [true, true]));
     Ok(())
 }
 

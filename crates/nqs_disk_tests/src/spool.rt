@@ -4,7 +4,7 @@ ghost use Rattle.nqs_disk.specs.MemDisk.{history_of};
 ghost use Rattle.nqs_outside.specs.History.{content, IsQuiet};
 ghost use Rattle.nqs_spool.specs.Extents.{extent_at};
 
-use nqs_base::{Extent, Tear};
+use nqs_base::{Extent, Memory, Tear};
 use nqs_disk::MemDisk;
 use nqs_outside::Disk;
 use nqs_spool::{ExtentFault, LiveExtents, Spool, SpoolFault};
@@ -84,16 +84,21 @@ fn of_lengths(alloc: Global, longer: &[u8], longest: &[u8]) -> Option<([Put; 5],
     Some((puts, empty))
 }
 
+fn bytes_of(alloc: Global, count: usize) -> Result<Vec<u8>, Memory> {
+    Ok(vec![in alloc; 5u8; count]?)
+}
+
 #[test]
 fn lengths(rt: HostRuntime) -> Result<(), Fail> {
-    let bytes = vec![in rt.alloc(); 5u8; 32_769]?;
-    let found = of_lengths(rt.alloc(), &bytes, &bytes[..32_768]);
+    let longer = bytes_of(rt.alloc(), 1_048_577)?;
+    let longest = bytes_of(rt.alloc(), 1_048_576)?;
+    let found = of_lengths(rt.alloc(), &longer, &longest);
     let puts = [
         Ok(at(0, 0)),
         Err(SpoolFault::TooLong),
-        Ok(at(0, 32_768)),
+        Ok(at(0, 1_048_576)),
         Ok(at(0, 0)),
-        Ok(at(32_768, 1)),
+        Ok(at(1_048_576, 1)),
     ];
     assert_eq!(rt; found, Some((puts, true)));
     Ok(())

@@ -1,9 +1,10 @@
 -- What a step or a start makes is modest: what it stores is short, and it takes few offers back.
-use Rattle.std.proofs.Common.{◌≡◌, ℕ, ◌+◌, ◌≤◌, Bool, true, false, nat_le, List, [], ◌∷◌, ◌++◌, map, filter, length, slice_get, Option, None, Some, option_map}
-use Rattle.std.proofs.Common.{Result, Ok, Err, refl, arith, length-append, if◌then◌else◌}
-use Rattle.std.proofs.lemmas.Bool.{and_parts, leb-true, le-leb}
+use Rattle.std.proofs.Common.{◌≡◌, ℕ, ◌+◌, ◌≤◌, Bool, true, false, nat_le, List, [], ◌∷◌, ◌++◌, filter, length, slice_get, Option, None, Some, option_map}
+use Rattle.std.proofs.Common.{Result, Ok, Err, refl, arith, length-append, ◌∙◌, if◌then◌else◌}
+use Rattle.std.proofs.lemmas.Bool.{and_parts, and_from, leb-true, le-leb}
 use Rattle.std.proofs.lemmas.List.{length-map}
-use Rattle.std.specs.List.{AllByRecursion, list_any}
+use Rattle.std.proofs.lemmas.List.Folds.{list_all-append}
+use Rattle.std.specs.List.{list_all, list_any}
 use Rattle.std.specs.Option.{IfSome, option_and_then}
 use Rattle.nqs_state.specs.State.{State}
 use Rattle.nqs_base.specs.Path.{is_path}
@@ -42,10 +43,10 @@ use Rattle.nqs_rules.specs.Access.{rank, may_command}
 use Rattle.nqs_rules.specs.Order.{pick}
 use Rattle.nqs_rules.specs.Rows.{queue_meant, submit_causes, delete_causes}
 use Rattle.nqs_rules.specs.Fits.{edit_causes}
-use Rattle.nqs_rules.specs.Sane.{is_of_site, is_asked, is_short_script, is_short_output, is_sane_carried, is_sane_command, is_sane_body, is_sane_low}
-use Rattle.nqs_rules.specs.Sane.{is_sane_event}
+use Rattle.nqs_rules.specs.Sane.{is_of_site, is_asked, is_short_script, is_short_file, is_short_output, is_short_change, is_sane_carried}
+use Rattle.nqs_rules.specs.Sane.{is_sane_command, is_sane_body, is_sane_low, is_sane_event}
 use Rattle.nqs_rules.specs.InOrder.{IsInOrder}
-use Rattle.nqs_rules.specs.Stepped.{Stepped, map_change, part_bytes, puts_of}
+use Rattle.nqs_rules.specs.Stepped.{Stepped, map_change}
 use Rattle.nqs_rules.specs.Handover.{closes, was_given, is_silent, silence, silent_hands, offer_causes, offer_by, on_offer, ready_phase, ready_with, on_ready}
 use Rattle.nqs_rules.specs.Handover.{refused_phase, refused_with, on_refused, done_phase, done_with, on_done, opened_with, open_hand}
 use Rattle.nqs_rules.specs.Stage.{Part, part_to, parts_of, has_left, numbered, first_number, is_got, on_end, on_stage}
@@ -54,32 +55,36 @@ use Rattle.nqs_rules.specs.Step.{Asker, unless_refused, submit_to, on_submit, de
 use Rattle.nqs_rules.specs.Step.{unlaunched_by, ticked, step}
 use Rattle.nqs_rules.proofs.Chains.{each}
 use Rattle.nqs_rules.proofs.Sublists.{filter_part, part_length}
-use Rattle.nqs_store.specs.Puts.{IsShortPut}
 use Rattle.nqs_host_laws.specs.Offers.{takes_back_few}
 use Rattle.nqs_host_laws.proofs.FewHands.{hands_few}
 
 -- what is stored is short, and few offers are taken back
 abbrev pub Modest : Option (Change (List ℕ)) → Type 0
-Modest o = AllByRecursion IsShortPut (puts_of o) × IfSome o (λ c. takes_back_few c ≡ true)
+Modest o = IfSome o (λ c. is_short_change length c ≡ true) × IfSome o (λ c. takes_back_few c ≡ true)
+
+abbrev is_short_part : Part → Bool
+is_short_part part = is_short_file part.bytes
 
 abbrev AreShort : List Part → Type 0
-AreShort parts = AllByRecursion IsShortPut (map part_bytes parts)
+AreShort parts = list_all is_short_part parts ≡ true
 
 part_short : (path bytes : List ℕ) → length bytes ≤ 32768 → AreShort (part_to path bytes)
-part_short path [] h = tt
-part_short path (b ∷ bytes) h = (h, tt)
+part_short path [] h = refl
+part_short path (b ∷ bytes) h = and_from (is_short_file (b ∷ bytes)) true (le-leb (length (b ∷ bytes)) 32768 h) refl
 
 all_short : (parts more : List Part) → AreShort parts → AreShort more → AreShort (parts ++ more)
-all_short [] more h k = k
-all_short (part ∷ parts) more h k = (h.0, all_short parts more h.1 k)
+all_short parts more h k = list_all-append is_short_part parts more ∙ and_from (list_all is_short_part parts) (list_all is_short_part more) h k
 
 numbered_short : (counter n : ℕ) (parts : List Part) → AreShort parts → AreShort (numbered counter n parts)
-numbered_short counter n [] h = tt
-numbered_short counter n (part ∷ parts) h = by (has_left counter n) (numbered_short counter (n + 1) parts h.1)
+numbered_short counter n [] h = refl
+numbered_short counter n (part ∷ parts) h =
+    let both = and_parts (is_short_part part) (list_all is_short_part parts) h in
+    by (has_left counter n) both.0 (numbered_short counter (n + 1) parts both.1)
   where
-    by : (b : Bool) → AreShort (numbered counter (n + 1) parts) → AreShort (if b then part ∷ numbered counter (n + 1) parts else [])
-    by true rest = (h.0, rest)
-    by false rest = tt
+    by : (b : Bool) → is_short_part part ≡ true → AreShort (numbered counter (n + 1) parts)
+        → AreShort (if b then part ∷ numbered counter (n + 1) parts else [])
+    by true first rest = and_from (is_short_part part) (list_all is_short_part (numbered counter (n + 1) parts)) first rest
+    by false first rest = refl
 
 parts_short : (j : Job) (output error : List ℕ) → length output ≤ 16384 → length error ≤ 16384 → AreShort (parts_of j output error)
 parts_short j output error one other = by j.join
@@ -106,11 +111,11 @@ module _ {E : Type 0} (s : State E) (h : IsInOrder s) where
     where
       to : (o : Option (List ℕ)) → Modest (submit_to a sub s o).change
       to None = (tt, tt)
-      to (Some q) = ((leb-true (length sub.script) 32768 short, tt), refl)
+      to (Some q) = (short, refl)
 
   delete_modest : (a : Asker) (id : Named) (o : Option (Row E)) → Modest (delete_meant a id o).change
   delete_modest a id None = (tt, tt)
-  delete_modest a id (Some r) = choice (is_running r.state) _ _ (tt, refl) (tt, refl)
+  delete_modest a id (Some r) = choice (is_running r.state) _ _ (refl, refl) (refl, refl)
 
   tick_modest : (now : ℕ) → Modest (ticked now s).change
   tick_modest now =
@@ -121,11 +126,11 @@ module _ {E : Type 0} (s : State E) (h : IsInOrder s) where
     where
       by : (ks : List PeerNumber) → length ks ≤ 255 → Modest (silence now s.retry_wait ks)
       by [] few = (tt, tt)
-      by (k ∷ ks) few = (tt, le-leb (length (k ∷ ks)) 255 few)
+      by (k ∷ ks) few = (refl, le-leb (length (k ∷ ks)) 255 few)
 
   allowed_modest : (now : ℕ) (a : Asker) (user : List ℕ) (c : Command) → is_sane_command c ≡ true → Modest (on_allowed now a user c s).change
   allowed_modest now a user (command.Submit sub) sane = submit_modest a sub (and_parts (is_asked sub) (is_short_script sub.script) sane).1
-  allowed_modest now a user (command.Edit e) sane = unless a (first_refusal (edit_causes e s)) _ (tt, refl)
+  allowed_modest now a user (command.Edit e) sane = unless a (first_refusal (edit_causes e s)) _ (refl, refl)
   allowed_modest now a user (command.Stat owner queues) sane = unless a (first_refusal (stat_causes queues s)) _ (tt, tt)
   allowed_modest now a user (command.Delete id forced) sane = unless a (first_refusal (delete_causes user id forced s)) (delete_meant a id (meant_row id s))
       (delete_modest a id (meant_row id s))
@@ -134,20 +139,20 @@ module _ {E : Type 0} (s : State E) (h : IsInOrder s) where
 
   -- messages
 
-  offer_modest : (peer : HostId) (n low : ℕ) (queue : List ℕ) (c : Carried) (script : List ℕ) → length script ≤ 32768
+  offer_modest : (peer : HostId) (n low : ℕ) (queue : List ℕ) (c : Carried) (script : List ℕ) → is_short_script script ≡ true
       → Modest (on_offer peer n low queue c script s).change
   offer_modest peer n low queue c script short = choice (closes n (find_peer peer s)) _ _ (tt, tt)
       (choice (has_promise peer n s) _ _ (tt, tt) (by (first_refusal (offer_causes peer low queue c s))))
     where
       by : (o : Result (Unit {0}) Refusal) → Modest (offer_by o peer n low queue c script s).change
       by (Err e) = (tt, tt)
-      by (Ok u) = ((short, tt), refl)
+      by (Ok u) = (short, refl)
 
   ready_modest : (peer : HostId) (n : ℕ) → Modest (on_ready peer n s).change
   ready_modest peer n = of (find_hand peer n s)
     where
       by : (p : Phase) → Modest (ready_phase p peer n s).change
-      by Offered = (tt, refl)
+      by Offered = (refl, refl)
       by Committed = (tt, tt)
 
       of : (o : Option Hand) → Modest (ready_with o peer n s).change
@@ -158,7 +163,7 @@ module _ {E : Type 0} (s : State E) (h : IsInOrder s) where
   refused_modest peer n refusal = of (find_hand peer n s)
     where
       by : (p : Phase) → Modest (refused_phase {E = E} p peer n refusal).change
-      by Offered = (tt, refl)
+      by Offered = (refl, refl)
       by Committed = (tt, tt)
 
       of : (o : Option Hand) → Modest (refused_with {E = E} o peer n refusal).change
@@ -170,29 +175,29 @@ module _ {E : Type 0} (s : State E) (h : IsInOrder s) where
     where
       by : (p : Phase) → Modest (done_phase {E = E} p peer n).change
       by Offered = (tt, tt)
-      by Committed = (tt, refl)
+      by Committed = (refl, refl)
 
       of : (o : Option Hand) → Modest (done_with {E = E} o peer n).change
       of None = (tt, tt)
       of (Some x) = by x.phase
 
-  stage_modest : (peer : HostId) (n : ℕ) (path bytes : List ℕ) → length bytes ≤ 32768 → Modest (on_stage peer n path bytes s).change
+  stage_modest : (peer : HostId) (n : ℕ) (path bytes : List ℕ) → is_short_file bytes ≡ true → Modest (on_stage peer n path bytes s).change
   stage_modest peer n path bytes short = choice (passes (is_got n) (find_peer peer s)) _ _ (tt, tt)
-      (choice (has_left s.file_next 0) _ _ ((short, tt), refl) ((omega arith, tt), refl))
+      (choice (has_left s.file_next 0) _ _ (short, refl) (refl, refl))
 
   message_modest : (peer : HostId) (b : Body) → is_sane_body (length s.site) b ≡ true → Modest (on_message peer b s).change
   message_modest peer (body.Offer n low queue c script) sane =
       let k = each (nat_le 1 n) (is_sane_low low n ∷ is_sane_carried c ∷ is_of_site (length s.site) c.id.host ∷ is_short_script script ∷ []) sane in
-      offer_modest peer n low queue c script (leb-true (length script) 32768 k.1.1.1.1.0)
+      offer_modest peer n low queue c script k.1.1.1.1.0
   message_modest peer (body.Ready n) sane = ready_modest peer n
   message_modest peer (body.Refused n refusal) sane = refused_modest peer n refusal
-  message_modest peer (body.Commit n) sane = choice (has_promise peer n s) _ _ (tt, refl) (choice (closes n (find_peer peer s)) _ _ (tt, tt) (tt, tt))
+  message_modest peer (body.Commit n) sane = choice (has_promise peer n s) _ _ (refl, refl) (choice (closes n (find_peer peer s)) _ _ (tt, tt) (tt, tt))
   message_modest peer (body.Done n) sane = done_modest peer n
   message_modest peer (body.Inquire n) sane = ready_modest peer n
-  message_modest peer (body.Abort n) sane = choice {E = E} (has_promise peer n s) _ _ (tt, refl) (tt, tt)
+  message_modest peer (body.Abort n) sane = choice {E = E} (has_promise peer n s) _ _ (refl, refl) (tt, tt)
   message_modest peer (body.Stage n path bytes) sane = stage_modest peer n path bytes
-      (leb-true (length bytes) 32768 (each (nat_le 1 n) (is_path path ∷ is_short_script bytes ∷ []) sane).1.1.0)
-  message_modest peer (body.Staged n) sane = choice (has_stage peer n s) _ _ (tt, refl) (tt, tt)
+      (each (nat_le 1 n) (is_path path ∷ is_short_file bytes ∷ []) sane).1.1.0
+  message_modest peer (body.Staged n) sane = choice (has_stage peer n s) _ _ (refl, refl) (tt, tt)
   message_modest peer b sane = (tt, tt)
 
   -- ends of jobs
@@ -209,7 +214,7 @@ module _ {E : Type 0} (s : State E) (h : IsInOrder s) where
 
   unlaunched_modest : (o : Option (Row E)) (id : RequestId) (start : ℕ) → Modest (unlaunched_by o id start).change
   unlaunched_modest None id start = (tt, tt)
-  unlaunched_modest (Some r) id start = choice {E = E} (is_start start r) _ _ (tt, refl) (tt, tt)
+  unlaunched_modest (Some r) id start = choice {E = E} (is_start start r) _ _ (refl, refl) (tt, tt)
 
   pub step_modest : (e : Event) → is_sane_event (length s.site) e ≡ true → Modest (step e s).change
   step_modest (event.Ask now port token user c) sane =
@@ -221,7 +226,7 @@ module _ {E : Type 0} (s : State E) (h : IsInOrder s) where
       let k = and_parts (is_short_output output) (is_short_output error) sane in
       ended_modest (find_row id s) start status output error (leb-true (length output) 16384 k.0) (leb-true (length error) 16384 k.1)
   step_modest (event.Unlaunched now id start) sane = unlaunched_modest (find_row id s) id start
-  step_modest (event.Written now file) sane = choice {E = E} (list_any (is_file file) s.files) _ _ (tt, refl) (tt, tt)
+  step_modest (event.Written now file) sane = choice {E = E} (list_any (is_file file) s.files) _ _ (refl, refl) (tt, tt)
   step_modest (event.Unwritten now file) sane = (tt, tt)
   step_modest (event.Tick now) sane = tick_modest now
 
@@ -246,21 +251,21 @@ module _ {E : Type 0} (s : State E) where
   moving_modest r d = by (first_refusal (local_causes d.queue s r))
     where
       by : (o : Result (Unit {0}) Refusal) → Modest (moving_by o d.queue r).change
-      by (Ok u) = (tt, refl)
-      by (Err e) = (tt, refl)
+      by (Ok u) = (refl, refl)
+      by (Err e) = (refl, refl)
 
   hand_modest : (now : ℕ) (r : Row E) (d : Dest) → Modest (open_hand d now s r).change
   hand_modest now r d = by (find_peer d.host s)
     where
       by : (o : Option Peer) → Modest (opened_with o d now s r).change
       by None = (tt, tt)
-      by (Some p) = (tt, refl)
+      by (Some p) = (refl, refl)
 
   started_modest : (c : Choice) (now : ℕ) → IsModest (started c now s)
-  started_modest (Launch row) now = row_modest row (λ r. Some (launching r s)) (λ r. (tt, refl))
+  started_modest (Launch row) now = row_modest row (λ r. Some (launching r s)) (λ r. (refl, refl))
   started_modest (Print row device) now = row_modest row (λ r. option_map (λ d. printing d r s) (device_at device r s))
-      (λ r. one_modest (λ d. printing d r s) (λ d. (tt, refl)) (device_at device r s))
-  started_modest (TooFar row) now = row_modest row (λ r. Some (holding r)) (λ r. (tt, refl))
+      (λ r. one_modest (λ d. printing d r s) (λ d. (refl, refl)) (device_at device r s))
+  started_modest (TooFar row) now = row_modest row (λ r. Some (holding r)) (λ r. (refl, refl))
   started_modest (Local row dest) now = row_modest row (λ r. option_map (λ d. moving d s r) (dest_at dest r s))
       (λ r. one_modest (λ d. moving d s r) (moving_modest r) (dest_at dest r s))
   started_modest (HandTo row dest) now = row_modest row (λ r. option_map (λ d. open_hand d now s r) (dest_at dest r s))
@@ -275,7 +280,7 @@ module _ {E : Type 0} (s : State E) where
 
 -- what a modest start is made of
 pub both_of : {E : Type 0} (o : Option (Stepped E)) → IfSome o (λ x. Modest x.change)
-    → IfSome o (λ x. AllByRecursion IsShortPut (puts_of x.change)) × IfSome o (λ x. IfSome x.change (λ c. takes_back_few c ≡ true))
+    → IfSome o (λ x. IfSome x.change (λ c. is_short_change length c ≡ true)) × IfSome o (λ x. IfSome x.change (λ c. takes_back_few c ≡ true))
 both_of None h = (tt, tt)
 both_of (Some x) h = h
 

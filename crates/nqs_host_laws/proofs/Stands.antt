@@ -34,7 +34,7 @@ use Rattle.nqs_rules.proofs.ListFacts.{found_passes, list_all-found}
 use Rattle.nqs_rules.proofs.RowFacts.{row_is, promise_is}
 use Rattle.nqs_rules.proofs.RowsOrder.{hand_is}
 use Rattle.nqs_rules.proofs.StateFacts.{host_below}
-use Rattle.nqs_records.specs.Values.{is_seq, IsU8, IsHost, IsId, IsExtent, IsPart, IsHand}
+use Rattle.nqs_records.specs.Values.{is_seq, IsU8, IsHost, IsId, IsPlaced, IsPart, IsHand}
 use Rattle.nqs_host_laws.specs.Offers.{HasNumber}
 use Rattle.nqs_host_laws.proofs.FewHands.{known_below}
 
@@ -45,11 +45,13 @@ counts_few n h = let few = leb-true n 255 h in omega (arith, few)
 
 -- paths
 
-pub parts_stand : (parts : List (OutPart Extent)) → list_all has_path parts ≡ true → AllByRecursion IsExtent (map part_bytes parts)
-    → AllByRecursion IsPart parts
-parts_stand [] paths extents = tt
-parts_stand (p ∷ ps) paths extents = let k = and_parts (is_path p.path) (list_all has_path ps) paths in
-    ((path_stands p.path k.0, extents.0), parts_stand ps k.1 extents.1)
+pub parts_stand : (parts : List (OutPart Extent)) → list_all has_path parts ≡ true → AllByRecursion IsPlaced (map part_bytes parts)
+    → list_all (λ (part : OutPart Extent). nat_le part.bytes.length 32768) parts ≡ true → AllByRecursion IsPart parts
+parts_stand [] paths extents short = tt
+parts_stand (p ∷ ps) paths extents short =
+    let k = and_parts (is_path p.path) (list_all has_path ps) paths in
+    let few = and_parts (nat_le p.bytes.length 32768) (list_all (λ (part : OutPart Extent). nat_le part.bytes.length 32768) ps) short in
+    ((path_stands p.path k.0, (extents.0, few.0)), parts_stand ps k.1 extents.1 few.1)
 
 module _ {E : Type 0} (s : State E) (peer : HostId) (number low : ℕ) (queue : List ℕ) (c : Carried) where
   -- a promise that fits has a host of the site, and an open number of a peer

@@ -7,14 +7,14 @@ ghost use Rattle.nqs_types.specs.declared.change.Change.{Change};
 ghost use Rattle.nqs_types.specs.declared.event.Event.{Event};
 ghost use Rattle.nqs_base.specs.declared.extent.Extent.{Extent};
 ghost use Rattle.nqs_records.specs.Changes.{MayStand};
-ghost use Rattle.nqs_records.specs.Values.{IsExtent};
+ghost use Rattle.nqs_records.specs.Values.{IsPlaced};
 ghost use Rattle.nqs_rules.specs.Fits.{fits};
 ghost use Rattle.nqs_rules.specs.InOrder.{IsInOrder};
-ghost use Rattle.nqs_rules.specs.Sane.{is_sane_change, is_sane_event};
+ghost use Rattle.nqs_rules.specs.Sane.{is_sane_change, is_sane_event, is_short_change};
 ghost use Rattle.nqs_rules.specs.Start.{start};
 ghost use Rattle.nqs_rules.specs.Step.{step};
-ghost use Rattle.nqs_rules.specs.Stepped.{map_change, puts_of, stored_parts};
-ghost use Rattle.nqs_store.specs.Puts.{IsShortPut};
+ghost use Rattle.nqs_rules.specs.Stepped.{map_change, stored_parts};
+ghost use Rattle.nqs_store.specs.Puts.{length_of};
 ghost use Rattle.nqs_host_laws.specs.Reads.{AreLive};
 ghost use Rattle.nqs_host_laws.specs.Offers.{takes_back_few};
 
@@ -32,7 +32,8 @@ pub fn fitting_changes_may_stand(state: &HostState, change: &Change)
     requires order { IsInOrder (content state.now) }
     requires fits { IsTrue (fits change.now (content state.now)) }
     requires sane { IsTrue (is_sane_change change.now) }
-    requires extents { AllByRecursion IsExtent (stored_parts change.now) }
+    requires extents { AllByRecursion IsPlaced (stored_parts change.now) }
+    requires short { IsTrue (is_short_change length_of change.now) }
     requires few { IsTrue (takes_back_few change.now) }
     ensures { MayStand change.now }
 {
@@ -111,11 +112,11 @@ pub fn few_offers_are_taken_back()
     ensures mapped { (f : List ℕ → Extent) (c : Change (List ℕ)) → takes_back_few (map_change f c) ≡ takes_back_few c }
 {}
 
-/// What is stored for a step or a start is short enough for the spool.
+/// What is stored for a step or a start is no more than a script or an output may have.
 pub fn stored_bytes_are_short()
     ensures step { (e : Event) (s : State Extent) → IsInOrder s → IsTrue (is_sane_event (length s.site) e)
-        → AllByRecursion IsShortPut (puts_of (step e s).change) }
-    ensures start { (now : ℕ) (s : State Extent) → IsInOrder s → IfSome (start now s) (λ x. AllByRecursion IsShortPut (puts_of x.change)) }
+        → IfSome (step e s).change (λ c. IsTrue (is_short_change length c)) }
+    ensures start { (now : ℕ) (s : State Extent) → IsInOrder s → IfSome (start now s) (λ x. IfSome x.change (λ c. IsTrue (is_short_change length c))) }
 {}
 
 /// What goes out reads live extents alone.

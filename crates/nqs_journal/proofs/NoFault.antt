@@ -1,15 +1,8 @@
--- Bytes that stand for payloads are at fault nowhere.
-use Rattle.std.proofs.Common.{◌≡◌, ◌≢◌, ◌⊎◌, inl, inr, ℕ, zero, suc, ◌<◌, List, [], ◌∷◌, ◌++◌, length, slice_get, refl, sym, ap, ◌∙◌, arith, append_assoc}
-use Rattle.std.proofs.lemmas.List.{append_cancel_left}
+-- Records that are followed by a closed gate don't end badly.
+use Rattle.std.proofs.Common.{◌≡◌, ◌≢◌, ◌⊎◌, inl, inr, ℕ, List, [], ◌∷◌, ◌++◌, sym, ◌∙◌, append_assoc}
 use Rattle.std.specs.List.{AllByRecursion}
-use Rattle.nqs_journal.specs.Text.{header, frame, records, IsShort, IsNoFrame, IsFaultAt, StandsFor}
+use Rattle.nqs_journal.specs.Text.{frame, records, IsShort, IsNoFrame}
 use Rattle.nqs_journal.proofs.Frames.{frame_cancel}
-
--- within the first of two lists
-slice_get_front : (xs ys : List ℕ) (i : ℕ) → i < length xs → slice_get (xs ++ ys) i ≡ slice_get xs i
-slice_get_front [] ys i lt = absurd (omega (arith, lt))
-slice_get_front (x ∷ xs) ys zero lt = refl
-slice_get_front (x ∷ xs) ys (suc i) lt = slice_get_front xs ys i (omega (arith, lt))
 
 -- behind the records the bytes end, or a gate is open with no payload behind it
 abbrev pub IsBadEnd : List ℕ → Type 0
@@ -29,13 +22,3 @@ not_both (p ∷ ps) (q ∷ qs) gate x rest short_p short_q shut same bad =
     let both = frame_cancel p q (records ps ++ gate ∷ x) (records qs ++ rest) short_p.0 short_q.0
     (sym (append_assoc (frame p) (records ps) (gate ∷ x)) ∙ behind ∙ append_assoc (frame q) (records qs) rest) in
     not_both ps qs gate x rest short_p.1 short_q.1 shut both.1 bad
-
-pub no_fault : (bytes : List ℕ) (payloads : List (List ℕ)) (place : ℕ) → StandsFor bytes payloads → IsFaultAt bytes place → ⊥
-no_fault bytes payloads place is (inl leaves) =
-    let text = is.text ∙ append_assoc header (records payloads) (is.gate ∷ is.rest) in
-    leaves.differs (ap (λ l. slice_get l place) text ∙ slice_get_front header (records payloads ++ is.gate ∷ is.rest) place leaves.within)
-no_fault bytes payloads place is (inr leaves) =
-    let same = append_cancel_left header (records payloads ++ is.gate ∷ is.rest) (records leaves.payloads ++ leaves.rest)
-    (sym (append_assoc header (records payloads) (is.gate ∷ is.rest)) ∙ sym is.text ∙ leaves.text
-    ∙ append_assoc header (records leaves.payloads) leaves.rest) in
-    not_both payloads leaves.payloads is.gate is.rest leaves.rest is.short leaves.short is.closed same leaves.bad

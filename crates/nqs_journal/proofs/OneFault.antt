@@ -2,7 +2,7 @@
 use Rattle.std.proofs.Common.{◌≡◌, inl, inr, ℕ, ◌+◌, ◌<◌, ◌≤◌, List, [], ◌∷◌, ◌++◌, length, take, refl, sym, ap, ◌∙◌, arith, append_assoc}
 use Rattle.std.specs.List.{AllByRecursion}
 use Rattle.std.proofs.lemmas.List.{take-take}
-use Rattle.nqs_journal.specs.Text.{header, frame, records, IsShort, LeavesRecordsAfter}
+use Rattle.nqs_journal.specs.Text.{frame, records, IsShort, LeavesRecordsAfter}
 use Rattle.nqs_journal.specs.Either.{header_of, front_of, IsSnapshot, IsEitherFaultAt, LeavesHeaders}
 use Rattle.nqs_journal.proofs.Frames.{frame_cancel}
 use Rattle.nqs_journal.proofs.NoFault.{IsBadEnd}
@@ -54,9 +54,9 @@ same_records_fault bytes p q v w s t is was one two =
 
 pub one_fault : (bytes : List ℕ) (place other : ℕ) → IsEitherFaultAt bytes place → IsEitherFaultAt bytes other → place ≡ other
 one_fault bytes p q (inl (inl one)) (inl (inl two)) = same_place p q (not_before bytes p q one two) (not_before bytes q p two one)
-one_fault bytes p q (inl (inl one)) (inl (inr two)) = absurd (no_header bytes two.rest two.version p two.text one)
+one_fault bytes p q (inl (inl one)) (inl (inr two)) = absurd (no_header bytes two.rest two.form p two.text one)
 one_fault bytes p q (inl (inl one)) (inr (w, t, was, two)) = absurd (headers bytes _ w t p (front_text _ bytes q two) one)
-one_fault bytes p q (inl (inr one)) (inl (inl two)) = absurd (no_header bytes one.rest one.version q one.text two)
+one_fault bytes p q (inl (inr one)) (inl (inl two)) = absurd (no_header bytes one.rest one.form q one.text two)
 one_fault bytes p q (inl (inr one)) (inl (inr two)) = one.is_place ∙ sym two.is_place
 one_fault bytes p q (inl (inr one)) (inr (w, t, was, two)) = absurd (cut bytes _ w t p was (front_text _ bytes q two) one)
 one_fault bytes p q (inr (v, s, is, one)) (inl (inl two)) = absurd (headers bytes _ v s q (front_text _ bytes p one) two)

@@ -3,7 +3,7 @@ ghost use Rattle.std.specs.Prelude.{◌≡◌, ◌+◌, ◌<◌, ◌≤◌, ◌^
 ghost use Rattle.nqs_outside.specs.Reads.{FailedToRead, OnlyReads};
 ghost use Rattle.nqs_outside.specs.History.{content, moment, IsWhole};
 ghost use Rattle.nqs_journal.specs.Text.{records};
-ghost use Rattle.nqs_journal.specs.Either.{front_of, IsSnapshot, StandsBy};
+ghost use Rattle.nqs_journal.specs.Either.{front_of, version_of, is_old_form, IsSnapshot, StandsBy};
 ghost use Rattle.nqs_journal.specs.Faults.{IsEitherLoadFault, IsEitherReadFault, IsReadingFault};
 
 use crate::JournalFault;
@@ -17,8 +17,8 @@ use std::alloc::Global;
 /// What was read.
 #[derive(Clone, Copy)]
 pub(crate) struct Found {
-    /// Of the snapshot's header, 1 or 2; 0 where there is no snapshot.
-    pub version: u8,
+    /// The form's number.
+    pub form: u8,
     /// The place of the closed gate behind the records.
     pub gate: u64,
     /// How many payloads stand before it.
@@ -32,9 +32,9 @@ pub(crate) fn add_text(
     snapshot: &mut Vec<u8>,
     found: &mut Vec<Bytes>,
 ) -> Result<Found, JournalFault>
-    ensures added { IfOk result (λ told. (front : List ℕ) × (payloads : List (List ℕ)) × StandsBy bytes.now told.version front payloads
+    ensures added { IfOk result (λ told. (front : List ℕ) × (payloads : List (List ℕ)) × StandsBy bytes.now told.form front payloads
         × (snapshot.new.items ≡ snapshot.old.items ++ front) × (found.new.items ≡ found.old.items ++ payloads)
-        × (told.gate ≡ length (front_of told.version front ++ records payloads))) }
+        × (told.gate ≡ length (front_of told.form front ++ records payloads))) }
     ensures within { IfOk result (λ told. told.gate < length bytes.now) }
     ensures counted { IfOk result (λ told. length found.new.items ≡ length found.old.items + told.count) }
     ensures few { IfOk result (λ told. told.count ≤ told.gate) }
@@ -51,7 +51,7 @@ pub(crate) fn add_text(
     found.append(&mut reading.payloads)?;
     snapshot.extend_from_slice(front.snapshot).unwrap();
     Ok(Found {
-        version: front.version,
+        form: front.form,
         gate: reading.gate,
         count,
     })
@@ -65,13 +65,13 @@ pub(crate) fn add_journal<D: Disk>(
     found: &mut Vec<Bytes>,
 ) -> Result<Found, JournalFault>
     ensures added { IsTrue D.tells → IfOk result (λ told. (front : List ℕ) × (payloads : List (List ℕ))
-        × StandsBy (content (D.history disk.old)) told.version front payloads
+        × StandsBy (content (D.history disk.old)) told.form front payloads
         × (snapshot.new.items ≡ snapshot.old.items ++ front) × (found.new.items ≡ found.old.items ++ payloads)
-        × (told.gate ≡ length (front_of told.version front ++ records payloads))
+        × (told.gate ≡ length (front_of told.form front ++ records payloads))
         × (told.gate < length (content (D.history disk.old)))) }
-    ensures small { IfOk result (λ told. (front : List ℕ) × (payloads : List (List ℕ)) × IsSnapshot told.version front
+    ensures small { IfOk result (λ told. (front : List ℕ) × (payloads : List (List ℕ)) × IsSnapshot told.form front
         × (snapshot.new.items ≡ snapshot.old.items ++ front) × (found.new.items ≡ found.old.items ++ payloads)
-        × (told.gate ≡ length (front_of told.version front ++ records payloads)) × (told.gate ≤ 2 ^ 40)) }
+        × (told.gate ≡ length (front_of told.form front ++ records payloads)) × (told.gate ≤ 2 ^ 40)) }
     ensures counted { IfOk result (λ told. length found.new.items ≡ length found.old.items + told.count) }
     ensures few { IfOk result (λ told. told.count ≤ told.gate) }
     ensures unchanged { OnErr result ((snapshot.new.items ≡ snapshot.old.items) × (found.new.items ≡ found.old.items)) }
@@ -89,6 +89,20 @@ pub(crate) fn add_journal<D: Disk>(
     add_text(alloc, &bytes, snapshot, found)
 }
 
+// Whether a text of the form is old.
+pub(crate) fn is_form_old(form: u8) -> bool
+    ensures { result ≡ is_old_form form }
+{
+    form == 1 || form == 3
+}
+
+// The version of the snapshot's header, 0 where there is no snapshot.
+pub(crate) fn version_by(form: u8) -> u8
+    ensures { result ≡ version_of form }
+{
+    if form == 3 { 0 } else { form }
+}
+
 /// Adds the snapshot's bytes, where there is one, and the payloads that a read finds now, by any
 /// form of a journal. The answer is 0 where there is no snapshot, else the version of its header,
 /// 1 or 2. It writes nothing. `NotJournal` tells the first byte at which none of the headers goes
@@ -100,8 +114,8 @@ pub fn read_either<D: Disk>(
     snapshot: &mut Vec<u8>,
     found: &mut Vec<Bytes>,
 ) -> Result<u8, JournalFault>
-    ensures found { IsTrue D.tells → IfOk result (λ version. (front : List ℕ) × (payloads : List (List ℕ))
-        × StandsBy (content (D.history disk.old)) version front payloads
+    ensures found { IsTrue D.tells → IfOk result (λ version. (form : ℕ) × (front : List ℕ) × (payloads : List (List ℕ))
+        × (version ≡ version_of form) × StandsBy (content (D.history disk.old)) form front payloads
         × (snapshot.new.items ≡ snapshot.old.items ++ front) × (found.new.items ≡ found.old.items ++ payloads)) }
     ensures small { IfOk result (λ version. (front : List ℕ) × (payloads : List (List ℕ)) × IsSnapshot version front
         × (snapshot.new.items ≡ snapshot.old.items ++ front) × (found.new.items ≡ found.old.items ++ payloads)
@@ -118,7 +132,7 @@ pub fn read_either<D: Disk>(
     ensures faultless { OnOk result (D.faults disk.new ≡ D.faults disk.old) }
 {
     match add_journal(alloc, disk, snapshot, found) {
-        Ok(told) => Ok(told.version),
+        Ok(told) => Ok(version_by(told.form)),
         Err(fault) => Err(fault),
     }
 }

@@ -1,19 +1,18 @@
 //! What comes before the records of a journal, by any of its forms: the header, or a snapshot's
-//! header, of version 1 or 2, with a snapshot behind its length. The forms are in
+//! header with a snapshot behind its length, each of version 1 or 2. The forms are in
 //! `specs/Either.antt`.
 ghost use Rattle.std.specs.Prelude.{◌≡◌, ◌<◌, ◌≤◌, ◌^◌, ◌++◌, ℕ, List, length, take, drop, IfSome, IfNone, IfOk, IfErr, OnOk};
-ghost use Rattle.nqs_journal.specs.Either.{header_of, long_frame, front_of, IsSnapshot, IsNoSnapshot, LeavesHeaders, IsFrontFault};
+ghost use Rattle.nqs_journal.specs.Either.{header_of, has_snapshot, long_frame, front_of, IsSnapshot, IsNoSnapshot, LeavesHeaders, IsFrontFault};
 
 use crate::begin::SNAPSHOT;
-use crate::read::{HEADER, first_difference};
+use crate::read::{HEADER, OLD_HEADER, first_difference};
 
 const OLD_SNAPSHOT: [u8; 16] = *b"NQS-SNAPSHOT-v1\n";
 
-// The version of the snapshot's header that the bytes begin with, 0 where they begin with that of
-// none, or the place at which they leave all headers.
-fn header_version(bytes: &[u8]) -> Result<u8, usize>
-    ensures known { IfOk result (λ version. version ≤ 2) }
-    ensures stands { IfOk result (λ version. bytes.now ≡ header_of version ++ drop 16 bytes.now) }
+// The form by the header that the bytes begin with, or the place at which they leave all headers.
+fn header_form(bytes: &[u8]) -> Result<u8, usize>
+    ensures known { IfOk result (λ form. form ≤ 3) }
+    ensures stands { IfOk result (λ form. bytes.now ≡ header_of form ++ drop 16 bytes.now) }
     ensures fault { IfErr result (LeavesHeaders bytes.now) }
 {
     let Some(place) = first_difference(bytes, &HEADER) else {
@@ -25,7 +24,17 @@ fn header_version(bytes: &[u8]) -> Result<u8, usize>
     let Some(new) = first_difference(bytes, &SNAPSHOT) else {
         return Ok(2);
     };
-    Err(place.max(old).max(new))
+    let Some(first) = first_difference(bytes, &OLD_HEADER) else {
+        return Ok(3);
+    };
+    Err(place.max(old).max(new).max(first))
+}
+
+// Whether a text of the form begins with a snapshot.
+fn begins_with_snapshot(form: u8) -> bool
+    ensures { result ≡ has_snapshot form }
+{
+    form == 1 || form == 2
 }
 
 // A snapshot behind its length. The length may be any that eight bytes have.
@@ -51,8 +60,8 @@ fn first_snapshot(bytes: &[u8]) -> Option<&[u8]>
 /// What comes before the records.
 #[derive(Clone, Copy)]
 pub(crate) struct Front<'a> {
-    /// Of the snapshot's header, 1 or 2; 0 where there is no snapshot.
-    pub version: u8,
+    /// The form's number.
+    pub form: u8,
     /// Empty where there is no snapshot.
     pub snapshot: &'a [u8],
     /// How many bytes it takes.
@@ -61,15 +70,15 @@ pub(crate) struct Front<'a> {
 
 // What comes before the records, or the place of the first fault there.
 pub(crate) fn read_front(bytes: &[u8]) -> Result<Front<'_>, usize>
-    ensures is { IfOk result (λ front. IsSnapshot front.version front.snapshot.now) }
-    ensures stands { IfOk result (λ front. take front.length bytes.now ≡ front_of front.version front.snapshot.now) }
+    ensures is { IfOk result (λ front. IsSnapshot front.form front.snapshot.now) }
+    ensures stands { IfOk result (λ front. take front.length bytes.now ≡ front_of front.form front.snapshot.now) }
     ensures within { IfOk result (λ front. front.length ≤ length bytes.now) }
     ensures fault { IfErr result (IsFrontFault bytes.now) }
 {
-    let version = header_version(bytes)?;
-    if version == 0 {
+    let form = header_form(bytes)?;
+    if !begins_with_snapshot(form) {
         return Ok(Front {
-            version: 0,
+            form,
             snapshot: &[],
             length: 16,
         });
@@ -78,7 +87,7 @@ pub(crate) fn read_front(bytes: &[u8]) -> Result<Front<'_>, usize>
         return Err(16);
     };
     Ok(Front {
-        version,
+        form,
         snapshot,
         length: 24 + snapshot.len(),
     })

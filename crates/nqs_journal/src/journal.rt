@@ -4,8 +4,8 @@ ghost use Rattle.std.specs.Prelude.{OnErr, MatchResult, true, false, length, vec
 ghost use Rattle.nqs_outside.specs.Causes.{Rose};
 ghost use Rattle.nqs_outside.specs.Reads.{FailedToRead, OnlyReads};
 ghost use Rattle.nqs_outside.specs.History.{Call, content, IsQuiet, extended, moment, state_at, MayLeave, EachSince, StopsShort, IsExact, IsWhole};
-ghost use Rattle.nqs_journal.specs.Text.{header, records, snapshot_front, StandsAfter, StandsFor};
-ghost use Rattle.nqs_journal.specs.Either.{front_of, IsSnapshot, IsSnapshotText, StandsBy};
+ghost use Rattle.nqs_journal.specs.Text.{header, header_by, records, snapshot_front, StandsAfter, StandsFor};
+ghost use Rattle.nqs_journal.specs.Either.{front_of, version_of, is_old_form, IsSnapshot, IsSnapshotText, StandsBy};
 ghost use Rattle.nqs_journal.specs.Plan.{append_calls, begin_calls, format_calls, front_calls};
 ghost use Rattle.nqs_journal.specs.Faults.{IsAppendFault, IsEitherLoadFault, IsLoadFault, IsReadingFault, MatchBegin};
 ghost use Rattle.nqs_journal.specs.Opened.{IsCounted, IsOpen};
@@ -14,7 +14,7 @@ ghost use Rattle.nqs_base.specs.Want.{want};
 
 use crate::JournalFault;
 use crate::begin::{snapshot_text, write_begin};
-use crate::either::{add_journal, read_either};
+use crate::either::{add_journal, is_form_old, read_either, version_by};
 use crate::load::{read_journal, read_payloads};
 use crate::write::{fill, write_behind};
 use nqs_base::Bytes;
@@ -36,17 +36,19 @@ pub struct Journal<D: Disk> {
     gate: u64,
     /// How many payloads stand before it.
     count: u64,
+    /// Whether its header is that of the version before.
+    is_old: bool,
     buffer: Vec<u8>,
     stopped: bool,
     ghost small: { gate ≤ 2 ^ 40 },
     ghost within: { IsTrue D.tells → stopped ≡ false → gate < length (content (D.history disk)) },
     ghost room: { 65541 ≤ vec_capacity buffer },
     ghost few: { count ≤ gate },
-    ghost counted: { IsTrue D.tells → stopped ≡ false → ∥ IsCounted (D.history disk) gate count ∥₁ },
+    ghost counted: { IsTrue D.tells → stopped ≡ false → ∥ IsCounted (D.history disk) gate count is_old ∥₁ },
 }
 
 impl<D: Disk> Journal<D> {
-    ghost use Rattle.nqs_journal.specs.Open.{disk_of, gate_of, count_of, is_stopped, history_of, Tells, BeforeOrAfter};
+    ghost use Rattle.nqs_journal.specs.Open.{disk_of, gate_of, count_of, is_old, is_stopped, history_of, Tells, BeforeOrAfter};
 
     /// Adds a payload. It is on the disk before the answer. After `Disk` the journal is stopped.
     pub fn append(&mut self, payload: &[u8]) -> Result<(), JournalFault>
@@ -57,6 +59,7 @@ impl<D: Disk> Journal<D> {
         ensures stops { IsTrue (is_stopped self.new) ↔ (IsTrue (is_stopped self.old) ⊎ IsErrOf result JournalFault.Disk) }
         ensures running { OnOk result (is_stopped self.new ≡ false) }
         ensures counted { MatchResult result (λ _. count_of self.new ≡ count_of self.old + 1) (λ _. count_of self.new ≡ count_of self.old) }
+        ensures old { is_old self.new ≡ is_old self.old }
         ensures later { D.faults (disk_of self.old) ≤ D.faults (disk_of self.new) }
         // At Ok no call failed, and the disk isn't read.
         ensures faultless { OnOk result (D.faults (disk_of self.new) ≡ D.faults (disk_of self.old)) }
@@ -123,7 +126,7 @@ impl<D: Disk> Journal<D> {
 }
 
 // The text of a journal without records.
-const EMPTY: [u8; 17] = *b"NQS-JOURNAL-v1\n\n\0";
+const EMPTY: [u8; 17] = *b"NQS-JOURNAL-v2\n\n\0";
 
 /// Makes an empty disk a journal.
 pub fn format<D: Disk>(disk: &mut D) -> Result<(), JournalFault>
@@ -145,7 +148,7 @@ pub fn format<D: Disk>(disk: &mut D) -> Result<(), JournalFault>
 }
 
 impl<D: Disk> Journal<D> {
-    ghost use Rattle.nqs_journal.specs.Open.{disk_of, gate_of, count_of, is_stopped, history_of, Tells};
+    ghost use Rattle.nqs_journal.specs.Open.{disk_of, gate_of, count_of, is_old, is_stopped, history_of, Tells};
 
     /// Opens a journal and adds its payloads to those found. On a refusal these are as before.
     pub fn load(
@@ -154,7 +157,7 @@ impl<D: Disk> Journal<D> {
         found: &mut Vec<Bytes>,
     ) -> Result<Journal<D>, (JournalFault, D)>
         requires { IsTrue D.tells → IsQuiet (D.history disk) }
-        ensures tells { IsTrue D.tells → IfOk result (λ journal. (payloads : List (List ℕ)) × Tells journal header payloads
+        ensures tells { IsTrue D.tells → IfOk result (λ journal. (payloads : List (List ℕ)) × Tells journal (header_by (is_old journal)) payloads
             × (found.new.items ≡ found.old.items ++ payloads)) }
         ensures small { OnOk result ((payloads : List (List ℕ)) × (found.new.items ≡ found.old.items ++ payloads)
             × (length (header ++ records payloads) ≤ 2 ^ 40)) }
@@ -176,8 +179,8 @@ impl<D: Disk> Journal<D> {
             Ok(buffer) => buffer,
             Err(refused) => return Err((refused.into(), disk)),
         };
-        let mut reading = match read_journal(alloc, &mut disk) {
-            Ok(reading) => reading,
+        let (mut reading, is_old) = match read_journal(alloc, &mut disk) {
+            Ok(read) => read,
             Err(fault) => return Err((fault, disk)),
         };
         let count = reading.payloads.len() as u64;
@@ -188,6 +191,7 @@ impl<D: Disk> Journal<D> {
             disk,
             gate: reading.gate,
             count,
+            is_old,
             buffer,
             stopped: false,
         })
@@ -204,8 +208,8 @@ impl<D: Disk> Journal<D> {
         found: &mut Vec<Bytes>,
     ) -> Result<(Journal<D>, u8), (JournalFault, D)>
         requires { IsTrue D.tells → IsQuiet (D.history disk) }
-        ensures tells { IsTrue D.tells → IfOk result (λ told. (front : List ℕ) × (payloads : List (List ℕ)) × IsSnapshot told.1 front
-            × Tells told.0 (front_of told.1 front) payloads
+        ensures tells { IsTrue D.tells → IfOk result (λ told. (form : ℕ) × (front : List ℕ) × (payloads : List (List ℕ))
+            × (told.1 ≡ version_of form) × (is_old told.0 ≡ is_old_form form) × IsSnapshot form front × Tells told.0 (front_of form front) payloads
             × (snapshot.new.items ≡ snapshot.old.items ++ front) × (found.new.items ≡ found.old.items ++ payloads)) }
         ensures small { IfOk result (λ told. (front : List ℕ) × (payloads : List (List ℕ)) × IsSnapshot told.1 front
             × (snapshot.new.items ≡ snapshot.old.items ++ front) × (found.new.items ≡ found.old.items ++ payloads)
@@ -236,10 +240,11 @@ impl<D: Disk> Journal<D> {
             disk,
             gate: told.gate,
             count: told.count,
+            is_old: is_form_old(told.form),
             buffer,
             stopped: false,
         };
-        Ok((journal, told.version))
+        Ok((journal, version_by(told.form)))
     }
 
     /// Makes a disk the journal of a snapshot, whatever stood there.
@@ -260,6 +265,7 @@ impl<D: Disk> Journal<D> {
         ensures due { IsTrue D.tells → OnOk result ((i : ℕ) → i < 2 → D.fails disk (moment (D.history disk) + i) ≡ false) }
         ensures running { IfOk result (λ journal. is_stopped journal ≡ false) }
         ensures counted { IfOk result (λ journal. count_of journal ≡ 0) }
+        ensures new { IfOk result (λ journal. is_old journal ≡ false) }
         ensures fuse { IsTrue D.tells → (i : ℕ) → MatchResult result (λ journal. D.fails (disk_of journal) i ≡ D.fails disk i)
             (λ e. D.fails e.1 i ≡ D.fails disk i) }
         ensures ends { IsTrue D.tells → (i : ℕ) → MatchResult result (λ journal. D.ends (disk_of journal) i ≡ D.ends disk i)
@@ -283,6 +289,7 @@ impl<D: Disk> Journal<D> {
                 disk,
                 gate: text.len() as u64 - 1,
                 count: 0,
+                is_old: false,
                 buffer,
                 stopped: false,
             }),
@@ -297,12 +304,14 @@ impl<D: Disk> Journal<D> {
         ensures only { IfErr result (λ e. e.0 ≡ JournalFault.Memory want) }
         ensures stopped { IfOk result (λ journal. is_stopped journal ≡ true) }
         ensures counted { IfOk result (λ journal. count_of journal ≡ 0) }
+        ensures new { IfOk result (λ journal. is_old journal ≡ false) }
     {
         match Vec::with_capacity(alloc, ROOM) {
             Ok(buffer) => Ok(Journal {
                 disk,
                 gate: 0,
                 count: 0,
+                is_old: false,
                 buffer,
                 stopped: true,
             }),
@@ -318,6 +327,7 @@ impl<D: Disk> Journal<D> {
         ensures running { OnOk result (is_stopped self.new ≡ false) }
         ensures stops { OnErr result (is_stopped self.new ≡ true) }
         ensures counted { MatchResult result (λ _. count_of self.new ≡ 0) (λ _. count_of self.new ≡ count_of self.old) }
+        ensures new { MatchResult result (λ _. is_old self.new ≡ false) (λ _. is_old self.new ≡ is_old self.old) }
         ensures gate { OnErr result (gate_of self.new ≡ gate_of self.old) }
         ensures tells { IsTrue D.tells → OnOk result ((snapshot : List ℕ) → text.now ≡ snapshot_front snapshot ++ 0 ∷ []
             → Tells self.new (snapshot_front snapshot) []) }
@@ -341,6 +351,7 @@ impl<D: Disk> Journal<D> {
         write_begin(&mut self.disk, text)?;
         self.gate = text.len() as u64 - 1;
         self.count = 0;
+        self.is_old = false;
         self.stopped = false;
         Ok(())
     }
@@ -349,10 +360,20 @@ impl<D: Disk> Journal<D> {
     /// failed.
     pub fn count(&self) -> u64
         ensures counted { result ≡ count_of self.now }
-        ensures told { IsTrue D.tells → is_stopped self.now ≡ false → (version : ℕ) (snapshot : List ℕ) (payloads : List (List ℕ))
-            → IsSnapshot version snapshot → Tells self.now (front_of version snapshot) payloads → result ≡ length payloads }
+        ensures told { IsTrue D.tells → is_stopped self.now ≡ false → (form : ℕ) (snapshot : List ℕ) (payloads : List (List ℕ))
+            → IsSnapshot form snapshot → Tells self.now (front_of form snapshot) payloads → result ≡ length payloads }
     {
         self.count
+    }
+
+    /// Whether its text is old: its header is of the version before, with a snapshot or without. A
+    /// journal at rest isn't, and a stopped one is what it was before. It takes no memory.
+    pub fn is_old(&self) -> bool
+        ensures kept { result ≡ is_old self.now }
+        ensures told { IsTrue D.tells → is_stopped self.now ≡ false → (form : ℕ) (snapshot : List ℕ) (payloads : List (List ℕ))
+            → IsSnapshot form snapshot → Tells self.now (front_of form snapshot) payloads → result ≡ is_old_form form }
+    {
+        self.is_old
     }
 
     /// Hands the disk back.
@@ -363,6 +384,7 @@ impl<D: Disk> Journal<D> {
             disk,
             gate: _,
             count: _,
+            is_old: _,
             buffer: _,
             stopped: _,
         } = self;
@@ -375,7 +397,7 @@ impl<D: Disk> Journal<D> {
     pub fn reread(&mut self, alloc: Global, found: &mut Vec<Bytes>) -> Result<(), JournalFault>
         ensures stands { IsTrue D.tells → OnOk result ((payloads : List (List ℕ)) × StandsFor (content (history_of self.old)) payloads
             × (found.new.items ≡ found.old.items ++ payloads)) }
-        ensures found { IsTrue D.tells → OnOk result ((payloads : List (List ℕ)) → Tells self.old header payloads
+        ensures found { IsTrue D.tells → OnOk result ((is_old : Bool) (payloads : List (List ℕ)) → Tells self.old (header_by is_old) payloads
             → found.new.items ≡ found.old.items ++ payloads) }
         ensures small { OnOk result ((payloads : List (List ℕ)) × (found.new.items ≡ found.old.items ++ payloads)
             × (length (header ++ records payloads) ≤ 2 ^ 40)) }
@@ -392,6 +414,7 @@ impl<D: Disk> Journal<D> {
         ensures faultless { OnOk result (D.faults (disk_of self.new) ≡ D.faults (disk_of self.old)) }
         ensures stays { (gate_of self.new ≡ gate_of self.old) × (is_stopped self.new ≡ is_stopped self.old) }
         ensures counted { count_of self.new ≡ count_of self.old }
+        ensures old { is_old self.new ≡ is_old self.old }
     {
         read_payloads(alloc, &mut self.disk, found)
     }
@@ -404,12 +427,12 @@ impl<D: Disk> Journal<D> {
         snapshot: &mut Vec<u8>,
         found: &mut Vec<Bytes>,
     ) -> Result<u8, JournalFault>
-        ensures stands { IsTrue D.tells → IfOk result (λ version. (front : List ℕ) × (payloads : List (List ℕ))
-            × StandsBy (content (history_of self.old)) version front payloads
+        ensures stands { IsTrue D.tells → IfOk result (λ version. (form : ℕ) × (front : List ℕ) × (payloads : List (List ℕ))
+            × (version ≡ version_of form) × StandsBy (content (history_of self.old)) form front payloads
             × (snapshot.new.items ≡ snapshot.old.items ++ front) × (found.new.items ≡ found.old.items ++ payloads)) }
-        ensures found { IsTrue D.tells → IfOk result (λ version. (told : ℕ) (front : List ℕ) (payloads : List (List ℕ)) → IsSnapshot told front
-            → Tells self.old (front_of told front) payloads
-            → (version ≡ told) × (snapshot.new.items ≡ snapshot.old.items ++ front) × (found.new.items ≡ found.old.items ++ payloads)) }
+        ensures found { IsTrue D.tells → IfOk result (λ version. (form : ℕ) (front : List ℕ) (payloads : List (List ℕ)) → IsSnapshot form front
+            → Tells self.old (front_of form front) payloads
+            → (version ≡ version_of form) × (snapshot.new.items ≡ snapshot.old.items ++ front) × (found.new.items ≡ found.old.items ++ payloads)) }
         ensures small { IfOk result (λ version. (front : List ℕ) × (payloads : List (List ℕ)) × IsSnapshot version front
             × (snapshot.new.items ≡ snapshot.old.items ++ front) × (found.new.items ≡ found.old.items ++ payloads)
             × (length (front_of version front ++ records payloads) ≤ 2 ^ 40)) }
@@ -426,13 +449,14 @@ impl<D: Disk> Journal<D> {
         ensures faultless { OnOk result (D.faults (disk_of self.new) ≡ D.faults (disk_of self.old)) }
         ensures stays { (gate_of self.new ≡ gate_of self.old) × (is_stopped self.new ≡ is_stopped self.old) }
         ensures counted { count_of self.new ≡ count_of self.old }
+        ensures old { is_old self.new ≡ is_old self.old }
     {
         read_either(alloc, &mut self.disk, snapshot, found)
     }
 }
 
 impl<D: Fused> Journal<D> {
-    ghost use Rattle.nqs_journal.specs.Open.{disk_of, gate_of, count_of, is_stopped, history_of};
+    ghost use Rattle.nqs_journal.specs.Open.{disk_of, gate_of, count_of, is_old, is_stopped, history_of};
 
     /// Makes the calls-th write or sync from here of the disk fail, and each later call, and no
     /// other. Where a call was made from which on each one is to fail, that stays so.
@@ -450,6 +474,7 @@ impl<D: Fused> Journal<D> {
         ensures starved { D.starved (disk_of self.new) ≡ D.starved (disk_of self.old) }
         ensures gate { gate_of self.new ≡ gate_of self.old }
         ensures counted { count_of self.new ≡ count_of self.old }
+        ensures old { is_old self.new ≡ is_old self.old }
         ensures stopped { is_stopped self.new ≡ is_stopped self.old }
         ensures faults { D.faults (disk_of self.new) ≡ D.faults (disk_of self.old) }
         ensures unread { D.reads (disk_of self.new) ≡ D.reads (disk_of self.old) }

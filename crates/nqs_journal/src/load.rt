@@ -2,7 +2,7 @@
 ghost use Rattle.std.specs.Prelude.{[], ◌≡◌, ◌+◌, ◌<◌, ◌≤◌, ◌^◌, ◌++◌, ℕ, List, IsTrue, IsErrOf, OnOk, OnErr, IfOk, IfErr, length, vec_len, MatchResult};
 ghost use Rattle.nqs_outside.specs.Reads.{FailedToRead, OnlyReads};
 ghost use Rattle.nqs_outside.specs.History.{content, moment, IsWhole};
-ghost use Rattle.nqs_journal.specs.Text.{header, records, StandsFor};
+ghost use Rattle.nqs_journal.specs.Text.{header, header_by, records, StandsAfter, StandsFor};
 ghost use Rattle.nqs_journal.specs.Faults.{IsDiskFault, IsLoadFault, IsReadingFault};
 
 use crate::JournalFault;
@@ -41,11 +41,14 @@ pub(crate) fn read_disk<D: Disk>(alloc: Global, disk: &mut D) -> Result<Vec<u8>,
     Ok(bytes)
 }
 
-// What the bytes stand for.
-pub(crate) fn read_journal<D: Disk>(alloc: Global, disk: &mut D) -> Result<Reading, JournalFault>
-    ensures stands { IsTrue D.tells → IfOk result (λ found. StandsFor (content (D.history disk.old)) found.payloads.items) }
-    ensures gate { IfOk result (λ found. found.gate ≡ length (header ++ records found.payloads.items)) }
-    ensures small { IfOk result (λ found. found.gate ≤ 2 ^ 40) }
+// What the bytes stand for, and whether the header is old.
+pub(crate) fn read_journal<D: Disk>(
+    alloc: Global,
+    disk: &mut D,
+) -> Result<(Reading, bool), JournalFault>
+    ensures stands { IsTrue D.tells → IfOk result (λ found. StandsAfter (header_by found.1) (content (D.history disk.old)) found.0.payloads.items) }
+    ensures gate { IfOk result (λ found. found.0.gate ≡ length (header_by found.1 ++ records found.0.payloads.items)) }
+    ensures small { IfOk result (λ found. found.0.gate ≤ 2 ^ 40) }
     ensures fault { IsTrue D.tells → IfErr result (IsLoadFault (content (D.history disk.old))) }
     ensures only { IfErr result IsReadingFault }
     ensures failed { IsErrOf result JournalFault.Disk → FailedToRead D.Disk disk.old disk.new }
@@ -81,7 +84,7 @@ pub fn read_payloads<D: Disk>(
     ensures twice { IsTrue D.tells → D.reads disk.new ≤ D.reads disk.old + 2 }
     ensures faultless { OnOk result (D.faults disk.new ≡ D.faults disk.old) }
 {
-    let mut reading = read_journal(alloc, disk)?;
+    let (mut reading, _) = read_journal(alloc, disk)?;
     found.append(&mut reading.payloads)?;
     Ok(())
 }

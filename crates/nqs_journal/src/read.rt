@@ -1,7 +1,7 @@
 //! What the bytes of a journal stand for.
 ghost use Rattle.std.specs.Prelude.{◌≡◌, ◌⊎◌, ◌+◌, ◌<◌, ◌≤◌, ◌++◌, ℕ, List, length, take, drop, slice_get, ◌≢◌, IfSome, IfNone, IfOk, IfErr, OnErr};
 ghost use Rattle.std.specs.Prelude.{MatchOption};
-ghost use Rattle.nqs_journal.specs.Text.{header, frame, records, IsNoFrame, LeavesHeader, IsFaultAt, StandsAfter, StandsFor};
+ghost use Rattle.nqs_journal.specs.Text.{header_by, frame, records, IsNoFrame, LeavesHeader, StandsAfter};
 ghost use Rattle.nqs_journal.specs.Faults.{IsReadFault, IsRecordsFault};
 
 use crate::JournalFault;
@@ -9,7 +9,9 @@ use crate::journal::LONGEST;
 use nqs_base::Bytes;
 use std::alloc::Global;
 
-pub(crate) const HEADER: [u8; 16] = *b"NQS-JOURNAL-v1\n\n";
+pub(crate) const HEADER: [u8; 16] = *b"NQS-JOURNAL-v2\n\n";
+
+pub(crate) const OLD_HEADER: [u8; 16] = *b"NQS-JOURNAL-v1\n\n";
 
 // The first place at which the bytes leave others.
 pub(crate) fn first_difference(bytes: &[u8], others: &[u8]) -> Option<usize>
@@ -29,12 +31,19 @@ pub(crate) fn first_difference(bytes: &[u8], others: &[u8]) -> Option<usize>
     None
 }
 
-// The first place at which the bytes leave the header.
-fn header_fault(bytes: &[u8]) -> Option<usize>
-    ensures none { IfNone result (bytes.now ≡ header ++ drop 16 bytes.now) }
-    ensures some { IfSome result (LeavesHeader bytes.now) }
+// Whether the bytes begin with the old header, where they begin with one of them, or the first
+// place at which they go on as neither.
+fn is_header_old(bytes: &[u8]) -> Result<bool, usize>
+    ensures stands { IfOk result (λ is_old. bytes.now ≡ header_by is_old ++ drop 16 bytes.now) }
+    ensures fault { IfErr result (LeavesHeader bytes.now) }
 {
-    first_difference(bytes, &HEADER)
+    let Some(new) = first_difference(bytes, &HEADER) else {
+        return Ok(false);
+    };
+    let Some(old) = first_difference(bytes, &OLD_HEADER) else {
+        return Ok(true);
+    };
+    Err(new.max(old))
 }
 
 // A payload behind an open gate, and what follows it.
@@ -95,15 +104,18 @@ pub(crate) fn read_records(
     }
 }
 
-// The payloads that the bytes stand for, and the place of the next gate.
-pub(crate) fn read_text(alloc: Global, bytes: &[u8]) -> Result<Reading, JournalFault>
-    ensures stands { IfOk result (λ found. StandsFor bytes.now found.payloads.items) }
-    ensures gate { IfOk result (λ found. found.gate ≡ length (header ++ records found.payloads.items)) }
-    ensures within { IfOk result (λ found. found.gate < length bytes.now) }
+// The payloads that the bytes stand for with the place of the next gate, and whether the header is
+// old.
+pub(crate) fn read_text(alloc: Global, bytes: &[u8]) -> Result<(Reading, bool), JournalFault>
+    ensures stands { IfOk result (λ found. StandsAfter (header_by found.1) bytes.now found.0.payloads.items) }
+    ensures gate { IfOk result (λ found. found.0.gate ≡ length (header_by found.1 ++ records found.0.payloads.items)) }
+    ensures within { IfOk result (λ found. found.0.gate < length bytes.now) }
     ensures fault { IfErr result (IsReadFault bytes.now) }
 {
-    if let Some(place) = header_fault(bytes) {
-        return Err(JournalFault::NotJournal(place as u64));
-    }
-    read_records(alloc, bytes, 16)
+    let is_old = match is_header_old(bytes) {
+        Ok(is_old) => is_old,
+        Err(place) => return Err(JournalFault::NotJournal(place as u64)),
+    };
+    let reading = read_records(alloc, bytes, 16)?;
+    Ok((reading, is_old))
 }

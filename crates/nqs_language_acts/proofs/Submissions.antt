@@ -3,6 +3,7 @@ use Rattle.std.proofs.Common.{◌≡◌, ℕ, zero, suc, ◌+◌, Bool, true, fa
 use Rattle.std.proofs.Common.{unwrap_or, Result, Ok, Err, IfOk, codes}
 use Rattle.std.proofs.lemmas.Bool.{and_from, le-leb, ltb-false}
 use Rattle.std.specs.Option.{option_or}
+use Rattle.nqs_types.specs.Scripts.{longest_script}
 use Rattle.nqs_types.specs.declared.event.Command.TheVariants as command
 use Rattle.nqs_types.specs.declared.fault.WordsCause.{WordsCause}
 use Rattle.nqs_types.specs.declared.fault.WordsCause.TheVariants as cause
@@ -150,8 +151,8 @@ Submits user words script o = is_sane_command (command.Submit (submission user w
 options_sane : (user : List ℕ) (words : List (List ℕ)) (script : List ℕ) → IfOk (qsub_options words script) (Submits user words script)
 unfolding qsub_options
 options_sane user words script =
-    unless (Submits user words script) (nat_lt 32768 (length script)) (fault_at 0 0 cause.ScriptTooLong) (both_options words script) (λ short.
-    ok (both_options words script) (both_sane words script) (le-leb (length script) 32768 (ltb-false 32768 (length script) short)))
+    unless (Submits user words script) (nat_lt longest_script (length script)) (fault_at 0 0 cause.ScriptTooLong) (both_options words script) (λ short.
+    ok (both_options words script) (both_sane words script) (le-leb (length script) longest_script (ltb-false longest_script (length script) short)))
   where
     ok : (r : Read Options) → IfOk r (AreAsked words script) → is_short_script script ≡ true → IfOk r (Submits user words script)
     ok (Ok o) h short =

@@ -166,11 +166,17 @@ fn finds_faults_of_the_script(rt: HostRuntime) {
     }
 }
 
+// So many bytes, of one line.
+fn line_of(alloc: Global, count: usize) -> Result<Vec<u8>, Memory> {
+    Ok(vec![in alloc; b'x'; count]?)
+}
+
 #[test]
 fn refuses_a_script_that_is_too_long(rt: HostRuntime) -> Result<(), Fail> {
-    let longer = vec![in rt.alloc(); b'x'; 32_769]?;
+    let longest = line_of(rt.alloc(), 1_048_576)?;
+    let longer = line_of(rt.alloc(), 1_048_577)?;
     let found = [
-        fault(rt.alloc(), b"-nr", &longer[..32_768]),
+        fault(rt.alloc(), b"-nr", &longest),
         fault(rt.alloc(), b"-x", &longer),
     ];
     let too_long = Some((WordsCause::ScriptTooLong, 0, 0));

@@ -83,6 +83,7 @@ alike_used puts c g h k =
         calls = no_calls;
         root = [];
         records = 0;
+        is_old = false;
       };
       fuses = still_none puts (applied c g.state) g k.fuses;
       others = still_none puts (applied c h.state) h k.others;
@@ -99,6 +100,7 @@ alike_stopped g h k = record {
     calls = no_calls;
     root = [];
     records = 0;
+    is_old = false;
   };
   fuses = refl;
   others = refl;

@@ -1,6 +1,7 @@
 -- What holds of every moment of a run, in the words of the laws.
 use Rattle.std.proofs.Common.{ℕ, nat_le, List, [], ◌∷◌, length}
 use Rattle.std.specs.List.{list_all}
+use Rattle.nqs_types.specs.Scripts.{longest_script}
 use Rattle.nqs_state.specs.State.{Plain}
 use Rattle.nqs_rules.specs.World.{Act}
 use Rattle.nqs_rules.specs.Run.{run_of}
@@ -15,8 +16,8 @@ host_right site place s h = record {
   names = λ j. (h.head j).1;
   order = record {
     order = h.order;
-    parts = chained (list_all (λ r. nat_le (length r.script) 32768) s.rows)
-        (list_all (λ p. nat_le (length p.row.script) 32768) s.promises ∷ list_all (λ t. nat_le (length t.bytes) 32768) s.stages
+    parts = chained (list_all (λ r. nat_le (length r.script) longest_script) s.rows)
+        (list_all (λ p. nat_le (length p.row.script) longest_script) s.promises ∷ list_all (λ t. nat_le (length t.bytes) 32768) s.stages
         ∷ list_all (λ f. nat_le (length f.bytes) 32768) s.files ∷ [])
         (h.scripts.rows, (h.scripts.promises, (h.outputs.stages, (h.outputs.files, tt))));
   };

@@ -1,5 +1,6 @@
 -- A change that begins with a checkpoint: what it shows and leaves.
-use Rattle.std.proofs.Common.{◌≡◌, ◌⊎◌, inl, inr, ℕ, ◌+◌, Bool, true, false, not, ◌&&◌, ◌||◌, List, [], ◌∷◌, Some, true≢false, refl, sym, ap, subst, ◌∙◌}
+use Rattle.std.proofs.Common.{◌≡◌, ◌⊎◌, inl, inr, ℕ, ◌+◌, Bool, true, false, not, ◌&&◌, ◌||◌, nat_le, List, [], ◌∷◌, Some, true≢false, refl, sym, ap, subst}
+use Rattle.std.proofs.Common.{◌∙◌}
 use Rattle.std.specs.Prelude.{if◌then◌else◌, MatchBool}
 use Rattle.std.proofs.lemmas.Bool.{and_parts, or_parts}
 use Rattle.nqs_types.specs.declared.ids.HostId.{HostId}
@@ -20,21 +21,21 @@ use Rattle.nqs_laws.proofs.Frame.{emits_world}
 use Rattle.nqs_laws.proofs.Sound.{get-here}
 
 pub ready_differs : (h : Host) → DifferInDisks h (ready h)
-ready_differs h = by (is_due h.records)
+ready_differs h = by (is_due h.is_old h.records)
   where
     by : (b : Bool) → DifferInDisks h (if b then turns_over h else h)
     by true = refl
     by false = refl
 
-ready_due : (h : Host) → is_due h.records ≡ true → ready h ≡ turns_over h
+ready_due : (h : Host) → is_due h.is_old h.records ≡ true → ready h ≡ turns_over h
 ready_due h due = ap (λ b. if b then turns_over h else h) due
 
-pub ready_early : (h : Host) → is_due h.records ≡ false → ready h ≡ h
+pub ready_early : (h : Host) → is_due h.is_old h.records ≡ false → ready h ≡ h
 ready_early h early = ap (λ b. if b then turns_over h else h) early
 
 module _ (h : HostId) (host : Host) (why : Why) (c : Change (List ℕ)) (first : List Seen) (os : List Output) (w : World) where
   -- what a change makes where a checkpoint is due and no fuse falls in it
-  module _ (due : is_due host.records ≡ true) (spared : (falls_at_journal host || falls_at_root host) ≡ false) where
+  module _ (due : is_due host.is_old host.records ≡ true) (spared : (falls_at_journal host || falls_at_root host) ≡ false) where
     same_fate : (puts : List (List ℕ)) → fate puts host ≡ fate_of_record puts (turns_over host)
     same_fate puts = ap (λ b. if b && (falls_at_journal host || falls_at_root host) then StoppedBefore
         else fate_of_record puts (if b then turns_over host else host)) due
@@ -58,9 +59,9 @@ module _ (h : HostId) (host : Host) (why : Why) (c : Change (List ℕ)) (first :
     same_change = ap (λ f. change_fated f h host why c first os w) (same_fate (stored_parts c)) ∙ same_fated (fate_of_record (stored_parts c) (turns_over host))
 
   pub shows_nothing : stops_in_checkpoint host ≡ false → makes_change h host why c first os w ≡ makes_change h (ready host) why c first os w
-  shows_nothing k = by (is_due host.records) refl
+  shows_nothing k = by (is_due host.is_old host.records) refl
     where
-      by : (b : Bool) → is_due host.records ≡ b → makes_change h host why c first os w ≡ makes_change h (ready host) why c first os w
+      by : (b : Bool) → is_due host.is_old host.records ≡ b → makes_change h host why c first os w ≡ makes_change h (ready host) why c first os w
       by true due = same_change due (sym (ap (λ b. b && (falls_at_journal host || falls_at_root host)) due) ∙ k)
           ∙ ap (λ g. makes_change h g why c first os w) (sym (ready_due host due))
       by false early = ap (λ g. makes_change h g why c first os w) (sym (ready_early host early))
@@ -70,23 +71,25 @@ module _ (h : HostId) (host : Host) (why : Why) (c : Change (List ℕ)) (first :
   torn_tells = by (names_same host.root (torn_root host.tear host.root)) (same_names host.root (torn_root host.tear host.root))
     where
       by : (b : Bool) → MatchBool b (active (torn_root host.tear host.root) ≡ active host.root) (active (torn_root host.tear host.root) ≡ resting host.root)
-          → ((active (torn_root host.tear host.root) ≡ active host.root) × ((if b then host.records else 0) ≡ host.records))
-          ⊎ ((active (torn_root host.tear host.root) ≡ resting host.root) × ((if b then host.records else 0) ≡ 0))
-      by true same = inl (same, refl)
-      by false other = inr (other, refl)
+          → ((active (torn_root host.tear host.root) ≡ active host.root) × ((if b then host.records else 0) ≡ host.records)
+          × ((if b then host.is_old else false) ≡ host.is_old))
+          ⊎ ((active (torn_root host.tear host.root) ≡ resting host.root) × ((if b then host.records else 0) ≡ 0)
+          × ((if b then host.is_old else false) ≡ false))
+      by true same = inl (same, refl, refl)
+      by false other = inr (other, refl, refl)
 
   cut_tells : (falls_at_journal host || falls_at_root host) ≡ true
       → TellsAsBefore host (if falls_at_journal host then host else (if falls_at_root host then torn_over host else turns_over host))
   cut_tells falls = by (falls_at_journal host) (falls_at_root host) falls
     where
       by : (a b : Bool) → (a || b) ≡ true → TellsAsBefore host (if a then host else (if b then torn_over host else turns_over host))
-      by true b k = inl (refl, refl)
+      by true b k = inl (refl, refl, refl)
       by false true k = torn_tells
       by false false k = absurd (true≢false (sym k))
 
   pub stops_as_it_was : stops_in_checkpoint host ≡ true → StopsAsItWas h host w (makes_change h host why c first os w)
   stops_as_it_was k =
-      let both = and_parts (is_due host.records) (falls_at_journal host || falls_at_root host) k in
+      let both = and_parts (is_due host.is_old host.records) (falls_at_journal host || falls_at_root host) k in
       let cut : cut_off host ≡ (if falls_at_journal host then host else (if falls_at_root host then torn_over host else turns_over host)) =
       ap (λ b. if not b || falls_at_journal host then host else (if falls_at_root host then torn_over host else turns_over host)) both.0 in
       record {
@@ -97,8 +100,9 @@ module _ (h : HostId) (host : Host) (why : Why) (c : Change (List ℕ)) (first :
 
   -- what a change that is made leaves
   module _ (there : host_of h w ≡ Some host) (made : fate (stored_parts c) host ≡ Made) where
-    leaves : (g : Host) → ready host ≡ g → Records h (applied c host.state) (active g.root) (g.records + 1) (makes_change h host why c first os w).world
-    leaves g is = record {
+    leaves : (g : Host) → ready host ≡ g → g.is_old ≡ false → Records h (applied c host.state) (active g.root) (g.records + 1)
+        (makes_change h host why c first os w).world
+    leaves g is new = record {
       host = used (stored_parts c) (applied c host.state) host;
       there = ap (λ f. host_of h (change_fated f h host why c first os w).world) made
           ∙ (ap (host_of h) (emits_world h os (put_host h (used (stored_parts c) (applied c host.state) host) w))
@@ -106,12 +110,14 @@ module _ (h : HostId) (host : Host) (why : Why) (c : Change (List ℕ)) (first :
       state = refl;
       journal_is = ap (λ g. active g.root) is;
       count = ap (λ g. g.records + 1) is;
+      new = ap (λ g. g.is_old) is ∙ new;
     }
 
-    pub leaves_one : is_due host.records ≡ true → Records h (applied c host.state) (resting host.root) 1 (makes_change h host why c first os w).world
+    pub leaves_one : is_due host.is_old host.records ≡ true → Records h (applied c host.state) (resting host.root) 1
+        (makes_change h host why c first os w).world
     leaves_one due = subst (λ journal. Records h (applied c host.state) journal 1 (makes_change h host why c first os w).world) (turned_active host.root)
-        (leaves (turns_over host) (ready_due host due))
+        (leaves (turns_over host) (ready_due host due) refl)
 
-    pub leaves_more : is_due host.records ≡ false
+    pub leaves_more : is_due host.is_old host.records ≡ false
         → Records h (applied c host.state) (active host.root) (host.records + 1) (makes_change h host why c first os w).world
-    leaves_more early = leaves host (ready_early host early)
+    leaves_more early = leaves host (ready_early host early) (or_parts host.is_old (nat_le 4096 host.records) early).0

@@ -2,7 +2,6 @@ pub mod TwoJournals
 pub mod Frame
 pub mod Told
 pub mod RowTests
-pub mod Sides
 pub mod LowFacts
 pub mod Sent
 pub mod Sound

@@ -52,7 +52,8 @@ use Rattle.nqs_rules.specs.Access.{rank, may_command}
 use Rattle.nqs_rules.specs.Rows.{queue_meant, submit_causes, delete_causes}
 use Rattle.nqs_rules.specs.Fits.{fits, row_passes, may_hop, is_next, edit_causes, is_site_host, is_open_number}
 use Rattle.nqs_rules.specs.Routing.{is_hand_to, low, has_room_for_hand, is_within_window}
-use Rattle.nqs_rules.specs.Sane.{is_of_site, is_short_script, is_short_output, is_sane_carried, is_sane_id, is_sane_job, is_offer_refusal, is_sane_command}
+use Rattle.nqs_rules.specs.Sane.{is_of_site, is_short_script, is_short_file, is_short_output, is_short_change, is_sane_carried, is_sane_id, is_sane_job}
+use Rattle.nqs_rules.specs.Sane.{is_offer_refusal, is_sane_command}
 use Rattle.nqs_rules.specs.Sane.{is_sane_low, is_sane_body, is_sane_message, is_sane_event}
 use Rattle.nqs_rules.specs.Stepped.{Stepped, Pending, quiet, says, makes, message, ready, shown, part_bytes, stored_parts}
 use Rattle.nqs_rules.specs.Handover.{closes, was_given, carried_of, offer, send_commit, send_abort, send_ready, send_done, send_refused, send_inquire}
@@ -87,7 +88,7 @@ use Rattle.nqs_laws.proofs.LowFacts.{is_above, low_above, low_next}
 use Rattle.nqs_laws.specs.Words.{body_passes}
 use Rattle.nqs_laws.proofs.Frame.{sent_in}
 use Rattle.nqs_laws.proofs.RowTests.{AllPass}
-use Rattle.nqs_laws.proofs.Sides.{AreShort}
+use Rattle.nqs_rules.proofs.Sides.{AreShort}
 
 -- small facts
 
@@ -190,11 +191,8 @@ given_some next n None k = absurd (true≢false (sym k))
 given_some next n (Some p) k = (and_parts (nat_le 1 n) (nat_lt n (next p)) k).0
 
 -- what is stored is short
-abbrev pub is_short_change : Change (List ℕ) → Bool
-is_short_change c = list_all is_short_script (stored_parts c)
-
 abbrev IsShortChange : Option (Change (List ℕ)) → Type 0
-IsShortChange o = IfSome o (λ c. is_short_change c ≡ true)
+IsShortChange o = IfSome o (λ c. is_short_change length c ≡ true)
 
 pub mapped : {V W : Type 0} (x : W) (g : V → W) (o : Option V) → option_map g o ≡ Some x → (v : V) × (g v ≡ x)
 mapped x g None e = absurd (none-some x e)
@@ -278,7 +276,7 @@ module _ (s : Plain) (h : IsInOrder s) where
 
   module _ (test : Carried → Bool) (may : RequestId → Bool) (goes : HostId → ℕ → Bool) (acks : RequestId → Bool)
       (near : (peer : HostId) (n : ℕ) → is_of_site hosts peer ≡ true → nat_le 1 n ≡ true → goes peer n ≡ true)
-      (scripts : AllPass (λ r. is_short_script r.script) s) (outputs : AreShort s)
+      (scripts : AllPass (λ r. is_short_script r.script) s) (outputs : AreShort length s)
       (carries : list_all (λ (r : PlainRow). test (carried_of r)) s.rows ≡ true) where
     abbrev is_fine : Pending (List ℕ) → Bool
     is_fine p = is_step_output hosts test may goes acks (shown p)
@@ -365,7 +363,7 @@ module _ (s : Plain) (h : IsInOrder s) where
             let b : Body = body.Stage q.1.number q.1.path q.1.bytes in
             let p = and_parts (is_of_site hosts q.1.peer) (is_sane_body hosts b) k in
             one (message s.me q.1.peer (body.Stage q.1.number q.1.path []), Some q.1.bytes)
-            (sends q.1.peer b p.1 refl (near q.1.peer q.1.number p.0 (each (nat_le 1 q.1.number) (is_path q.1.path ∷ is_short_script q.1.bytes ∷ []) p.1).0))
+            (sends q.1.peer b p.1 refl (near q.1.peer q.1.number p.0 (each (nat_le 1 q.1.number) (is_path q.1.path ∷ is_short_file q.1.bytes ∷ []) p.1).0))
 
     due_outputs_fine : AreFine (due_outputs s)
     due_outputs_fine = joined (stages_from 0 s s.site) (map file_again s.files) (all_stages 0 s.site)
@@ -600,19 +598,19 @@ module _ (s : Plain) (h : IsInOrder s) where
     -- ends
 
     abbrev is_part_fine : Part → Bool
-    is_part_fine part = is_path part.path && is_short_script part.bytes
+    is_part_fine part = is_path part.path && is_short_file part.bytes
 
-    short_enough : (bytes : List ℕ) → is_short_output bytes ≡ true → is_short_script bytes ≡ true
+    short_enough : (bytes : List ℕ) → is_short_output bytes ≡ true → is_short_file bytes ≡ true
     short_enough bytes k = le-leb (length bytes) 32768 (let few = leb-true (length bytes) 16384 k in omega (arith, few))
 
-    both_short : (a b : List ℕ) → is_short_output a ≡ true → is_short_output b ≡ true → is_short_script (a ++ b) ≡ true
+    both_short : (a b : List ℕ) → is_short_output a ≡ true → is_short_output b ≡ true → is_short_file (a ++ b) ≡ true
     both_short a b k l = le-leb (length (a ++ b)) 32768 (let few = leb-true (length a) 16384 k in let more = leb-true (length b) 16384 l in
         omega (arith, length-append a b, few, more))
 
-    part_fine : (path bytes : List ℕ) → is_path path ≡ true → is_short_script bytes ≡ true → list_all is_part_fine (part_to path bytes) ≡ true
+    part_fine : (path bytes : List ℕ) → is_path path ≡ true → is_short_file bytes ≡ true → list_all is_part_fine (part_to path bytes) ≡ true
     part_fine path [] k l = refl
-    part_fine path (b ∷ bytes) k l = and_from (is_path path && is_short_script (b ∷ bytes)) true
-        (and_from (is_path path) (is_short_script (b ∷ bytes)) k l) refl
+    part_fine path (b ∷ bytes) k l = and_from (is_path path && is_short_file (b ∷ bytes)) true
+        (and_from (is_path path) (is_short_file (b ∷ bytes)) k l) refl
 
     parts_fine : (j : Job) (output error : List ℕ) → is_sane_job j ≡ true → is_short_output output ≡ true → is_short_output error ≡ true
         → list_all is_part_fine (parts_of j output error) ≡ true
@@ -641,9 +639,9 @@ module _ (s : Plain) (h : IsInOrder s) where
     kept_fine r output error right a b = numbered_fine (first_number s r.id) 0 (parts_of r.job output error)
         (parts_fine r.job output error (row_is s r right).job a b)
 
-    stored_fine : (parts : List Part) → list_all is_part_fine parts ≡ true → list_all is_short_script (map part_bytes parts) ≡ true
-    stored_fine parts k = all-mapped is_part_fine is_short_script part_bytes
-        (λ part p. (and_parts (is_path part.path) (is_short_script part.bytes) p).1) parts k
+    stored_fine : (parts : List Part) → list_all is_part_fine parts ≡ true → list_all (λ (part : Part). is_short_file part.bytes) parts ≡ true
+    stored_fine parts k = list_all-weaker is_part_fine (λ (part : Part). is_short_file part.bytes)
+        (λ part p. (and_parts (is_path part.path) (is_short_file part.bytes) p).1) parts k
 
     parts_outputs : (id : RequestId) (parts : List Part) → is_of_site hosts id.host ≡ true → list_all is_part_fine parts ≡ true
         → AreFine (parts_sent s id parts)
@@ -665,8 +663,8 @@ module _ (s : Plain) (h : IsInOrder s) where
             let number : ℕ = stage_counter (find_peer id.host s) in
             let b : Body = body.Stage number p.path p.bytes in
             let some = counter (find_peer id.host s) refl in
-            one (ready (message s.me id.host b)) (sends id.host b (let k = and_parts (is_path p.path) (is_short_script p.bytes) q in
-            chained (nat_le 1 number) (is_path p.path ∷ is_short_script p.bytes ∷ []) (some, (k.0, (k.1, tt)))) refl (near id.host number site some))
+            one (ready (message s.me id.host b)) (sends id.host b (let k = and_parts (is_path p.path) (is_short_file p.bytes) q in
+            chained (nat_le 1 number) (is_path p.path ∷ is_short_file p.bytes ∷ []) (some, (k.0, (k.1, tt)))) refl (near id.host number site some))
 
         by : (a b : Bool) → AreFine (if a then files_written s.file_next parts else
             (if b then [] else stage_sent s.me id.host (if a then s.file_next else stage_counter (find_peer id.host s)) parts))
@@ -769,7 +767,7 @@ module _ (s : Plain) (h : IsInOrder s) where
         of (Moves r dest found is) = subst IsGood is (moved (first_refusal (local_causes dest.queue s r)) dest.queue r)
         of (Opens r dest found is) = subst IsGood is (opened r dest found (find_peer dest.host s) refl is)
 
-  module _ (test : Carried → Bool) (may : RequestId → Bool) (scripts : AllPass (λ r. is_short_script r.script) s) (outputs : AreShort s)
+  module _ (test : Carried → Bool) (may : RequestId → Bool) (scripts : AllPass (λ r. is_short_script r.script) s) (outputs : AreShort length s)
       (carries : list_all (λ (r : PlainRow). test (carried_of r)) s.rows ≡ true) where
     -- what an event makes a host send is within its limits
     pub step_fine : (e : Event) → is_sane_event hosts e ≡ true → MaySubmit may (step e s).change
@@ -800,7 +798,7 @@ module _ (s : Plain) (h : IsInOrder s) where
 
         submitted : (o : Option (List ℕ)) (sub : _) → is_sane_command (command.Submit sub) ≡ true → IsShortChange (submit_to a sub s o).change
         submitted None sub k = tt
-        submitted (Some q) sub k = and_from (is_short_script sub.script) true (and_parts _ (is_short_script sub.script) k).1 refl
+        submitted (Some q) sub k = (and_parts _ (is_short_script sub.script) k).1
 
         deleted : (id : Named) (o : Option PlainRow) → IsShortChange (delete_meant a id o).change
         deleted id None = tt
@@ -832,7 +830,7 @@ module _ (s : Plain) (h : IsInOrder s) where
         offered true b o n low queue c script k = tt
         offered false true o n low queue c script k = tt
         offered false false (Err r) n low queue c script k = tt
-        offered false false (Ok u) n low queue c script k = and_from (is_short_script script) true k refl
+        offered false false (Ok u) n low queue c script k = k
 
         readied : (o : Option Hand) (n : ℕ) → IsShortChange (ready_with o m.from n s).change
         readied None n = missing (was_given n (find_peer m.from s))
@@ -872,12 +870,12 @@ module _ (s : Plain) (h : IsInOrder s) where
         aborted true n = refl
         aborted false n = tt
 
-        staged : (a b : Bool) (n : ℕ) (path bytes : List ℕ) → is_short_script bytes ≡ true
+        staged : (a b : Bool) (n : ℕ) (path bytes : List ℕ) → is_short_file bytes ≡ true
             → IsShortChange (if a then says (send_staged s m.from n ∷ []) else
             (if b then makes (StageGot m.from n path bytes) (send_staged s m.from n ∷ ready (out.File s.file_next path bytes) ∷ []) else
             makes (StageGot m.from n path []) (send_staged s m.from n ∷ []))).change
         staged true b n path bytes k = tt
-        staged false true n path bytes k = and_from (is_short_script bytes) true k refl
+        staged false true n path bytes k = k
         staged false false n path bytes k = refl
 
         gone : (a : Bool) (n : ℕ) → IsShortChange (if a then makes (StageGone m.from n)
@@ -896,7 +894,7 @@ module _ (s : Plain) (h : IsInOrder s) where
         of (body.Inquire n) k = readied (find_hand m.from n s) n
         of (body.Abort n) k = aborted (has_promise m.from n s) n
         of (body.Stage n path bytes) k = staged (passes (is_got n) (find_peer m.from s)) (has_left s.file_next 0) n path bytes
-            (each (nat_le 1 n) (is_path path ∷ is_short_script bytes ∷ []) k).1.1.0
+            (each (nat_le 1 n) (is_path path ∷ is_short_file bytes ∷ []) k).1.1.0
         of (body.Staged n) k = gone (has_stage m.from n s) n
         of b k = tt
     step_stores (event.Ended now port id start status output error) k = let p = and_parts (is_short_output output) (is_short_output error) k in

@@ -24,7 +24,7 @@ use Rattle.nqs_rules.specs.Fits.{fits}
 use Rattle.nqs_rules.specs.Format.{formatted}
 use Rattle.nqs_rules.specs.InOrder.{IsInOrder, IsConsistent}
 use Rattle.nqs_rules.specs.Tests.{is_running}
-use Rattle.nqs_rules.specs.Sane.{is_short_script, is_sane_message, is_sane_event, is_sane_change}
+use Rattle.nqs_rules.specs.Sane.{is_short_script, is_short_change, is_sane_message, is_sane_event, is_sane_change}
 use Rattle.nqs_rules.specs.Start.{start}
 use Rattle.nqs_rules.specs.Starts.{after_change}
 use Rattle.nqs_rules.specs.Step.{step}
@@ -49,8 +49,8 @@ use Rattle.nqs_laws.specs.Sane.{AreSane}
 use Rattle.nqs_laws.proofs.Frame.{Moment, moment, put_state, Comes, Way, Taken, Begun, Booted, change_by, why_by, outputs_by, sent_in, IsIdle, noted, silent}
 use Rattle.nqs_laws.proofs.Frame.{whole, cut, Frames, Steps, steps_of, run_kept}
 use Rattle.nqs_laws.proofs.RowTests.{IsKept, NewPasses, AllPass, change_passes}
-use Rattle.nqs_laws.proofs.Sides.{head, head_kept, AreShort, short_kept}
-use Rattle.nqs_laws.proofs.Sent.{is_short_change, is_fine_message, all_sent, step_fine, start_sends, step_stores}
+use Rattle.nqs_rules.proofs.Sides.{head, head_kept, AreShort, short_kept}
+use Rattle.nqs_laws.proofs.Sent.{is_fine_message, all_sent, step_fine, start_sends, step_stores}
 
 abbrev pub is_script_short : PlainRow → Bool
 is_script_short r = is_short_script r.script
@@ -61,7 +61,7 @@ pub record IsHost (site : List (List ℕ)) (place : ℕ) (s : Plain) : Type 0 wh
   pub order : IsInOrder s
   pub calm : IsConsistent s
   pub scripts : AllPass is_script_short s
-  pub outputs : AreShort s
+  pub outputs : AreShort length s
 
 pub record IsSound (site : List (List ℕ)) (m : Moment) : Type 0 where
   pub hosts : (place : ℕ) (s : Plain) → slice_get m.states place ≡ Some s → IsHost site place s
@@ -77,19 +77,19 @@ module _ (site : List (List ℕ)) (place : ℕ) (s : Plain) (h : IsHost site pla
   abbrev site_is : s.site ≡ site
   site_is = λ j. (h.head j).1
 
-  new_short : (c : Change (List ℕ)) → is_short_change c ≡ true → NewPasses is_script_short c s
-  new_short (Submitted queue job script) k = (and_parts (is_short_script script) true k).0
-  new_short (OldPromised peer number queue c script) k = (and_parts (is_short_script script) true k).0
-  new_short (Promised peer number low queue c script) k = (and_parts (is_short_script script) true k).0
+  new_short : (c : Change (List ℕ)) → is_short_change length c ≡ true → NewPasses is_script_short c s
+  new_short (Submitted queue job script) k = k
+  new_short (OldPromised peer number queue c script) k = k
+  new_short (Promised peer number low queue c script) k = k
   new_short c k = tt
 
-  pub host_kept : (c : Change (List ℕ)) → fits c s ≡ true → is_sane_change c ≡ true → is_short_change c ≡ true → IsHost site place (applied c s)
+  pub host_kept : (c : Change (List ℕ)) → fits c s ≡ true → is_sane_change c ≡ true → is_short_change length c ≡ true → IsHost site place (applied c s)
   host_kept c fit sane short = record {
     head = head_kept c s fit ∙ h.head;
     order = applied_order c s h.order sane fit;
     calm = applied_consistent s h.order h.calm c fit;
     scripts = change_passes is_script_short script_kept c s fit (new_short c short) h.scripts;
-    outputs = short_kept c s fit short h.outputs;
+    outputs = short_kept length c s fit short h.outputs;
   }
 
 -- what a host does
@@ -108,7 +108,7 @@ event_sane packets h n (event.Tick now) all comes = refl
 pub record Suits (s : Plain) (c : Change (List ℕ)) : Type 0 where
   pub fit : fits c s ≡ true
   pub sane : is_sane_change c ≡ true
-  pub short : is_short_change c ≡ true
+  pub short : is_short_change length c ≡ true
 
 pub some-if : {V : Type 0} (P : V → Type 0) (o : Option V) (v : V) → IfSome o P → o ≡ Some v → P v
 some-if P None v k e = absurd (none-some v e)
@@ -126,7 +126,7 @@ boot_sends n test (r ∷ rows) = by (is_running r.state) (may_start_again r) (bo
     by false c rest = rest
 
 -- a start stores nothing
-begun_short : (s : Plain) (r : PlainRow) (c : Change (List ℕ)) → StartsRow s r c → is_short_change c ≡ true
+begun_short : (s : Plain) (r : PlainRow) (c : Change (List ℕ)) → StartsRow s r c → is_short_change length c ≡ true
 begun_short s r (Started id device) starts = refl
 begun_short s r (HeldFar id) starts = refl
 begun_short s r (MovedLocal id queue) starts = refl
@@ -151,7 +151,7 @@ module _ (site : List (List ℕ)) (m : Moment) (k : IsSound site m) (h : HostId)
       record {
         fit = p.0;
         sane = p.1;
-        short = some-if (λ c. is_short_change c ≡ true) (step e s).change c
+        short = some-if (λ c. is_short_change length c ≡ true) (step e s).change c
             (step_stores s host.order (λ c. true) (λ id. true) host.scripts host.outputs (all-true s.rows) e sane) is;
       }
   way_suits (Begun now x begins) c is =

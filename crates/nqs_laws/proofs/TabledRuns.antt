@@ -33,7 +33,7 @@ use Rattle.nqs_laws.specs.History.{history}
 use Rattle.nqs_laws.specs.Sane.{AreSane, IsSite}
 use Rattle.nqs_laws.specs.Loads.{Load, kept_load}
 use Rattle.nqs_laws.proofs.Frame.{Moment, moment, put_state, put-same, Way, change_by}
-use Rattle.nqs_laws.proofs.Sides.{head_kept}
+use Rattle.nqs_rules.proofs.Sides.{head_kept}
 use Rattle.nqs_laws.proofs.Sound.{IsSound, Keeps, Suits, me_is, host_kept, runs_keep}
 use Rattle.nqs_laws.proofs.After.{Request}
 use Rattle.nqs_laws.proofs.Makes.{HasHand}

@@ -28,7 +28,7 @@ turned_none : (h : Host) → h.fuses ≡ no_fuses → (turns_over h).fuses ≡ n
 turned_none h none = still Root 2 (burnt_at (resting h.root) 2 h.fuses) (still (resting h.root) 2 h.fuses none)
 
 ready_none : (h : Host) → h.fuses ≡ no_fuses → (ready h).fuses ≡ no_fuses
-ready_none h none = by (is_due h.records)
+ready_none h none = by (is_due h.is_old h.records)
   where
     by : (b : Bool) → (if b then turns_over h else h).fuses ≡ no_fuses
     by true = turned_none h none
@@ -44,7 +44,7 @@ record_made puts h none =
 
 -- no fuse falls
 pub made : (puts : List (List ℕ)) (h : Host) → h.fuses ≡ no_fuses → fate puts h ≡ Made
-made puts h none = by (is_due h.records)
+made puts h none = by (is_due h.is_old h.records)
   where
     by : (b : Bool) → (if b && (falls_at_journal h || falls_at_root h) then StoppedBefore else fate_of_record puts (if b then turns_over h else h)) ≡ Made
     by true =

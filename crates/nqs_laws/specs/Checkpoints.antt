@@ -10,17 +10,19 @@ use Rattle.nqs_rules.specs.World.{Host, World, Ran, falls_at_journal, falls_at_r
 
 -- a change of the host begins with a checkpoint, among whose calls a fuse falls
 abbrev pub stops_in_checkpoint : Host → Bool
-stops_in_checkpoint h = is_due h.records && (falls_at_journal h || falls_at_root h)
+stops_in_checkpoint h = is_due h.is_old h.records && (falls_at_journal h || falls_at_root h)
 
--- Hosts that differ at most in their disks: in the root, in the number of records, in the calls
--- that were made, and in those left until a fuse.
+-- Hosts that differ at most in their disks: in the root, in the number of records, in whether their
+-- text is old, in the calls that were made, and in those left until a fuse.
 abbrev pub DifferInDisks : Host → Host → Type 0
-DifferInDisks g h = record h { fuses = g.fuses; calls = g.calls; root = g.root; records = g.records } ≡ g
+DifferInDisks g h = record h { fuses = g.fuses; calls = g.calls; root = g.root; records = g.records; is_old = g.is_old } ≡ g
 
 -- The disks tell what they told before: by the journal that was active then, with all its records,
--- or by the one that was resting, to which a checkpoint went and which has no record.
+-- or by the one that was resting, to which a checkpoint went, which has no record and isn't old.
 abbrev pub TellsAsBefore : Host → Host → Type 0
-TellsAsBefore before h = ((active h.root ≡ active before.root) × (h.records ≡ before.records)) ⊎ ((active h.root ≡ resting before.root) × (h.records ≡ 0))
+TellsAsBefore before h =
+    ((active h.root ≡ active before.root) × (h.records ≡ before.records) × (h.is_old ≡ before.is_old))
+    ⊎ ((active h.root ≡ resting before.root) × (h.records ≡ 0) × (h.is_old ≡ false))
 
 -- The host is down with the state that it had, and its disks tell what they told. Nothing is noted
 -- but the stop.
@@ -29,17 +31,20 @@ pub record StopsAsItWas (h : HostId) (before : Host) (w : World) (r : Ran) : Typ
   pub tells : TellsAsBefore before left
   pub is : r ≡ seeing (seen.Stop h) (put_host h (stopped before.state left) w)
 
--- the host has this state, and the journal on this disk is active, with so many records
+-- the host has this state, and the journal on this disk is active, with so many records, and isn't
+-- old
 pub record Records (h : HostId) (s : Plain) (journal : Which) (records : ℕ) (w : World) : Type 0 where
   pub host : Host
   pub there : host_of h w ≡ Some host
   pub state : host.state ≡ s
   pub journal_is : active host.root ≡ journal
   pub count : host.records ≡ records
+  pub new : host.is_old ≡ false
 
--- a host without what its disks hold: with no fuse, no call made, an empty root and no record
+-- a host without what its disks hold: with no fuse, no call made, an empty root and no record, and
+-- not old
 abbrev pub without_disks : Host → Host
-without_disks h = record h { fuses = no_fuses; calls = no_calls; root = []; records = 0 }
+without_disks h = record h { fuses = no_fuses; calls = no_calls; root = []; records = 0; is_old = false }
 
 -- hosts without fuses that are the same but for their disks
 pub record AreAlike (g h : Host) : Type 0 where
@@ -69,7 +74,8 @@ abbrev pub lays_none : Act → Bool
 lays_none (Fuse h disk calls tear) = false
 lays_none act = true
 
--- a journal has 4,096 records at most, and the root one byte
+-- a journal has 4,096 records at most and isn't old, and the root has one byte at most
 pub record AreDisksSmall (h : Host) : Type 0 where
   pub records : h.records ≤ 4096
+  pub new : h.is_old ≡ false
   pub root : length h.root ≤ 1

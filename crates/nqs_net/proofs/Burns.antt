@@ -127,11 +127,11 @@ is_turned false = refl
 
 ready_by : (host : Host) (b : Bool) → active_in (if b then turns_over host else host)
     ≡ (if b then turned_to (active_in host) else active_in host)
-ready_by host true = λ j. record { second = is_turned (not (is_second host.root)) j; records = 0 }
+ready_by host true = λ j. record { second = is_turned (not (is_second host.root)) j; records = 0; is_old = false }
 ready_by host false = refl
 
 pub ready_active : (host : Host) → active_in (ready host) ≡ ready_in (active_in host)
-ready_active host = ready_by host (is_due host.records)
+ready_active host = ready_by host (is_due host.is_old host.records)
 
 -- where a checkpoint is due, and where none is
 
@@ -160,9 +160,9 @@ module _ (host : Host) (fails : Which → ℕ → Bool) (old : Which → History
       (ran_more old other_calls (on Root byte_calls))
 
   pub ready_disks : IsPast here fails old → AreDisks (ready host) (ran old (due_calls here snapshot)) fails
-  ready_disks past = by (is_due host.records) refl
+  ready_disks past = by (is_due host.is_old host.records) refl
     where
-      by : (b : Bool) → is_due host.records ≡ b
+      by : (b : Bool) → is_due host.is_old host.records ≡ b
           → AreDisks (if b then turns_over host else host) (ran old (if b then checkpoint_calls here snapshot else [])) fails
       by true due = turned_disks (past.other due) (past.root due)
       by false idle = same_disks host fails fails old (ran old []) disks (λ which i. refl) (λ which. ran_still old [] which refl)
@@ -196,11 +196,11 @@ module _ (a : Active) (snapshot : List ℕ) where
 
 module _ (old : Which → History) (a : Active) (snapshot : List ℕ) where
   pub spool_then : moment (ran old (due_calls a snapshot) Spool) ≡ moment (old Spool)
-  spool_then = ap moment (ran_still old (due_calls a snapshot) Spool (spool_due a snapshot (is_due a.records)))
+  spool_then = ap moment (ran_still old (due_calls a snapshot) Spool (spool_due a snapshot (is_due a.is_old a.records)))
 
   pub journal_then : moment (ran old (due_calls a snapshot) (journal_of (ready_in a))) ≡ record_moment a old
   journal_then = moment_more (old (journal_of (ready_in a))) (part (journal_of (ready_in a)) (due_calls a snapshot))
-      ∙ ap (λ n. moment (old (journal_of (ready_in a))) + n) (journal_due a snapshot (is_due a.records))
+      ∙ ap (λ n. moment (old (journal_of (ready_in a))) + n) (journal_due a snapshot (is_due a.is_old a.records))
 
 -- the disks after the calls of a change
 module _ (host : Host) (fails : Which → ℕ → Bool) (old : Which → History) (disks : AreDisks host old fails) (puts : List (List ℕ)) (places : List ℕ)

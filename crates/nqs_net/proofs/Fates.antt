@@ -122,18 +122,18 @@ module _ (host : Host) (fails : Which → ℕ → Bool) (old : Which → History
 
   -- its calls weren't to fail
   pub past_fate : IsPast a fails old → fate puts host ≡ fate_of_record puts (ready host)
-  past_fate past = by (is_due host.records) refl
+  past_fate past = by (is_due host.is_old host.records) refl
     where
-      by : (b : Bool) → is_due host.records ≡ b → by_checkpoint b (falls_at_journal host || falls_at_root host) ≡ fate_of_record puts (ready host)
+      by : (b : Bool) → is_due host.is_old host.records ≡ b → by_checkpoint b (falls_at_journal host || falls_at_root host) ≡ fate_of_record puts (ready host)
       by false idle = refl
       by true due = ap (λ b. by_checkpoint true (b || falls_at_root host)) (journal_clear (past.other due))
           ∙ ap (by_checkpoint true) (root_clear (past.root due))
 
   -- then a stop leaves what the checkpoint made
   pub past_cut : IsPast a fails old → cut_off host ≡ ready host
-  past_cut past = by (is_due host.records) refl
+  past_cut past = by (is_due host.is_old host.records) refl
     where
-      by : (b : Bool) → is_due host.records ≡ b
+      by : (b : Bool) → is_due host.is_old host.records ≡ b
           → (if not b || falls_at_journal host then host else (if falls_at_root host then torn_over host else turns_over host))
           ≡ (if b then turns_over host else host)
       by false idle = refl
@@ -141,7 +141,7 @@ module _ (host : Host) (fails : Which → ℕ → Bool) (old : Which → History
           ∙ ap (λ b. if b then torn_over host else turns_over host) (root_clear (past.root due))
 
   -- it was cut off
-  module _ (due : is_due host.records ≡ true) where
+  module _ (due : is_due host.is_old host.records ≡ true) where
     pub other_fate : falls_at_journal host ≡ true → fate puts host ≡ StoppedBefore
     other_fate falls = ap (λ b. by_checkpoint b (falls_at_journal host || falls_at_root host)) due
         ∙ ap (λ b. by_checkpoint true (b || falls_at_root host)) falls

@@ -55,7 +55,7 @@ format_starved fault fails starved which unfused (inl first) cause is = by (caus
 
 -- the first journal is active, and has one record
 abbrev pub formatted_active : Active
-formatted_active = record { second = false; records = 1 }
+formatted_active = record { second = false; records = 1; is_old = false }
 
 module _ (me : HostId) (site : List (List ℕ)) where
   module _ (disks : Disks MemDisk) (empty : mem.history_of disks.root ≡ unused) (is : IsFormatted (mem.history_of disks.first) me site) where
@@ -69,7 +69,7 @@ module _ (me : HostId) (site : List (List ℕ)) where
     formatted_told = record {
       host = formatted me site;
       is = record {
-        version = 0;
+        form = 0;
         snapshot = [];
         payloads = is.payload ∷ [];
         stands = subst (λ root. StandsBy (bytes (active root)) 0 [] (is.payload ∷ [])) (sym no_root) (refl, is.opened.stands);
@@ -82,11 +82,12 @@ module _ (me : HostId) (site : List (List ℕ)) where
     pub formatted_is_active : IsActive bytes formatted_active
     formatted_is_active = record {
       named = ap is_second no_root;
-      version = 0;
+      form = 0;
       snapshot = [];
       payloads = is.payload ∷ [];
       stands = (refl, is.opened.stands);
       many = refl;
+      old = refl;
     }
 
   module _ (new disks : Disks MemDisk)
@@ -104,8 +105,8 @@ module _ (me : HostId) (site : List (List ℕ)) where
       fuses = no_fuses;
       calls = record no_calls { first = 2 };
       root = [];
-      records =
-          1;
+      records = 1;
+      is_old = false;
     }
 
     two_calls : AreDisks host (histories_of mem.history_of disks) (failing_of mem.fails_of disks)

@@ -2,6 +2,7 @@
 use Rattle.std.proofs.Common.{◌≡◌, ℕ, nat_le, true, List, [], ◌∷◌, length, refl}
 use Rattle.std.proofs.lemmas.Bool.{and_from}
 use Rattle.std.specs.List.{list_all}
+use Rattle.nqs_types.specs.Scripts.{longest_script}
 use Rattle.nqs_state.specs.State.{Plain}
 use Rattle.nqs_rules.specs.Run.{happens}
 use Rattle.nqs_rules.specs.World.{Act, World as Network}
@@ -17,8 +18,8 @@ module _ (site : List (List ℕ)) where
 
   host_of_right : (place : ℕ) (s : Plain) → IsRight site place s → IsHost site place s
   host_of_right place s right =
-      let parts = each (list_all (λ r. nat_le (length r.script) 32768) s.rows)
-      (list_all (λ p. nat_le (length p.row.script) 32768) s.promises ∷ list_all (λ t. nat_le (length t.bytes) 32768) s.stages
+      let parts = each (list_all (λ r. nat_le (length r.script) longest_script) s.rows)
+      (list_all (λ p. nat_le (length p.row.script) longest_script) s.promises ∷ list_all (λ t. nat_le (length t.bytes) 32768) s.stages
       ∷ list_all (λ f. nat_le (length f.bytes) 32768) s.files ∷ [])
       right.order.parts in
       record {

@@ -20,8 +20,8 @@ use Rattle.nqs_net.proofs.Parts.{root_other}
 use Rattle.nqs_net.proofs.Burns.{root_due}
 
 -- the root that a host has behind a checkpoint, where one was due
-pub ready_root : (host : Host) → (ready host).root ≡ (if is_due host.records then turned host.root else host.root)
-ready_root host = by (is_due host.records)
+pub ready_root : (host : Host) → (ready host).root ≡ (if is_due host.is_old host.records then turned host.root else host.root)
+ready_root host = by (is_due host.is_old host.records)
   where
     by : (b : Bool) → (if b then turns_over host else host).root ≡ (if b then turned host.root else host.root)
     by true = refl
@@ -37,7 +37,7 @@ root_after h k root false quiet is made = ap state made ∙ state-extended h [] 
 
 -- the part of the root in a commit's calls
 pub root_part : (a : Active) (snapshot places : List ℕ) (puts : List (List ℕ)) (gate : ℕ) (payload : List ℕ)
-    → part Root (commit_calls a snapshot places puts gate payload) ≡ (if is_due a.records then begin_calls (byte_of (not a.second) ∷ []) else [])
+    → part Root (commit_calls a snapshot places puts gate payload) ≡ (if is_due a.is_old a.records then begin_calls (byte_of (not a.second) ∷ []) else [])
 root_part a snapshot places puts gate payload =
     let due = due_calls a snapshot in
     let spool = on Spool (puts_calls places puts) in
@@ -46,7 +46,7 @@ root_part a snapshot places puts gate payload =
     ∙ ap (λ l. part Root due ++ l) (part_append Root spool record_calls
     ∙ ap (λ l. l ++ part Root record_calls) (part_other Root Spool (puts_calls places puts) refl)
     ∙ part_other Root (journal_of (ready_in a)) (append_calls gate payload) (root_other (ready_in a).second))
-    ∙ append-nil (part Root due) ∙ root_due a snapshot (is_due a.records)
+    ∙ append-nil (part Root due) ∙ root_due a snapshot (is_due a.is_old a.records)
 
 -- the root after a change was kept
 pub kept_root : (host : Host) (fails : Which → ℕ → Bool) (puts : List (List ℕ)) (old now : Which → History) → IsQuiet (old Root)
@@ -55,4 +55,4 @@ kept_root host fails puts old now quiet is kept =
     let c = kept.calls in
     let made = c.made Root ∙ ap (λ l. extended (old Root) (part Root l)) c.stands
     ∙ ap (extended (old Root)) (root_part (active_in host) c.snapshot c.places puts c.gate c.payload) in
-    ap (λ (s : State). s.content) (root_after (old Root) (now Root) host.root (is_due host.records) quiet is made) ∙ sym (ready_root host)
+    ap (λ (s : State). s.content) (root_after (old Root) (now Root) host.root (is_due host.is_old host.records) quiet is made) ∙ sym (ready_root host)

@@ -29,7 +29,7 @@ use Rattle.nqs_net.proofs.Roots.{ready_root, root_after}
 -- the tear stays
 
 pub cut_tear : (host : Host) → (cut_off host).tear ≡ host.tear
-cut_tear host = by (not (is_due host.records) || falls_at_journal host) (falls_at_root host)
+cut_tear host = by (not (is_due host.is_old host.records) || falls_at_journal host) (falls_at_root host)
   where
     by : (b c : Bool) → (if b then host else (if c then torn_over host else turns_over host)).tear ≡ host.tear
     by true c = refl
@@ -48,17 +48,22 @@ CutsTo before after bytes host Made = ⊥
 CutsTo before after bytes host StoppedBefore = AreFound bytes before (cut_off host)
 CutsTo before after bytes host StoppedAfter = AreFound bytes after (recorded (ready host))
 
--- of two journals the one that a root names, as the rules count its records
-named_by : (s t : Bool) (n : ℕ) → (let a : Active = record { second = s; records = n } in if (if s then t else not t) then a else turned_to a)
-    ≡ record { second = t; records = if (if s then t else not t) then n else 0 }
-named_by true true n = refl
-named_by true false n = refl
-named_by false true n = refl
-named_by false false n = refl
+-- of two journals the one that a root names, as the rules count its records, and whether it is old
+named_by : (s t old : Bool) (n : ℕ)
+    → (let a : Active = record { second = s; records = n; is_old = old } in if (if s then t else not t) then a else turned_to a)
+    ≡ record { second = t; records = if (if s then t else not t) then n else 0; is_old = if (if s then t else not t) then old else false }
+named_by true true old n = refl
+named_by true false old n = refl
+named_by false true old n = refl
+named_by false false old n = refl
 
 named_torn : (host : Host) (root : List ℕ) → named_in root (active_in host)
-    ≡ record { second = is_second root; records = if names_same host.root root then host.records else 0 }
-named_torn host root = named_by (is_second host.root) (is_second root) host.records
+    ≡ record {
+      second = is_second root;
+      records = if names_same host.root root then host.records else 0;
+      is_old = if names_same host.root root then host.is_old else false;
+    }
+named_torn host root = named_by (is_second host.root) (is_second root) host.is_old host.records
 
 module _ (host : Host) (fails : Which → ℕ → Bool) (old : Which → History) (disks : AreDisks host old fails) (puts : List (List ℕ)) (now : Which → History)
     (before after : Plain) (images : (which : Which) → IsImage (state (now which)) (torn host.tear (state (now which)))) (quiet : IsQuiet (old Root))
@@ -77,14 +82,14 @@ module _ (host : Host) (fails : Which → ℕ → Bool) (old : Which → History
     active = subst (IsActive left) is (leaves left images).1;
   }
 
-  cut_other : IsTrue (is_due a.records) → IsCutAtOther a fails old now before → CutsTo before after left host (fate puts host)
+  cut_other : IsTrue (is_due a.is_old a.records) → IsCutAtOther a fails old now before → CutsTo before after left host (fate puts host)
   cut_other due cut =
       let root = ap state cut.root ∙ quiet ∙ ap fresh holds in
       let falls = journal_falls host fails old disks puts cut.at cut.failed in
       subst (CutsTo before after left host) (sym (other_fate host fails old disks puts due falls))
       (subst (AreFound left before) (sym (other_cut host fails old disks puts due falls)) (found before a host cut.told refl root))
 
-  cut_root : IsTrue (is_due a.records) → IsCutAtRoot a fails old now before → CutsTo before after left host (fate puts host)
+  cut_root : IsTrue (is_due a.is_old a.records) → IsCutAtRoot a fails old now before → CutsTo before after left host (fate puts host)
   cut_root due cut =
       let none = journal_clear host fails old disks puts cut.other in
       let falls = root_falls host fails old disks puts cut.at cut.failed in
@@ -104,7 +109,7 @@ module _ (host : Host) (fails : Which → ℕ → Bool) (old : Which → History
     r = ready host
 
     root : state (now Root) ≡ fresh r.root
-    root = root_after (old Root) (now Root) host.root (is_due host.records) quiet holds made ∙ ap fresh (sym (ready_root host))
+    root = root_after (old Root) (now Root) host.root (is_due host.is_old host.records) quiet holds made ∙ ap fresh (sym (ready_root host))
 
     root_left : left Root ≡ r.root
     root_left = fresh_image r.root (left Root) (subst (λ (u : State). IsImage u (left Root)) root (images Root))

@@ -118,19 +118,19 @@ module _ (a : Active) (puts : List (List ℕ)) (snapshot places : List ℕ) (gat
   record_calls = on (journal_of (ready a)) (append_calls gate payload)
 
   all_count : ℕ
-  all_count = due_count (is_due a.records) + (spool_calls puts + 4)
+  all_count = due_count (is_due a.is_old a.records) + (spool_calls puts + 4)
 
-  all_oks : host_oks (commit_calls a snapshot places puts gate payload) ≡ due_count (is_due a.records) + (spool_calls puts + 4)
+  all_oks : host_oks (commit_calls a snapshot places puts gate payload) ≡ due_count (is_due a.is_old a.records) + (spool_calls puts + 4)
   all_oks = host_more due (spool ++ record_calls)
-      ∙ ap (λ n. n + host_oks (spool ++ record_calls)) (due_oks a snapshot (is_due a.records))
-      ∙ ap (λ n. due_count (is_due a.records) + n) (host_more spool record_calls
+      ∙ ap (λ n. n + host_oks (spool ++ record_calls)) (due_oks a snapshot (is_due a.is_old a.records))
+      ∙ ap (λ n. due_count (is_due a.is_old a.records) + n) (host_more spool record_calls
       ∙ ap (λ n. n + host_oks record_calls) (host_on Spool (puts_calls places puts) ∙ puts_oks places puts ∙ puts_count places puts many)
       ∙ ap (λ n. spool_calls puts + n) (host_on (journal_of (ready a)) (append_calls gate payload)))
 
-  all_length : length (commit_calls a snapshot places puts gate payload) ≡ due_count (is_due a.records) + (spool_calls puts + 4)
+  all_length : length (commit_calls a snapshot places puts gate payload) ≡ due_count (is_due a.is_old a.records) + (spool_calls puts + 4)
   all_length = length-append due (spool ++ record_calls)
-      ∙ ap (λ n. n + length (spool ++ record_calls)) (due_length a snapshot (is_due a.records))
-      ∙ ap (λ n. due_count (is_due a.records) + n) (length-append spool record_calls
+      ∙ ap (λ n. n + length (spool ++ record_calls)) (due_length a snapshot (is_due a.is_old a.records))
+      ∙ ap (λ n. due_count (is_due a.is_old a.records) + n) (length-append spool record_calls
       ∙ ap (λ n. n + length record_calls) (length-map {B = HostCall} (puts_calls places puts) (λ call. (Spool, call)) ∙ puts_count places puts many)
       ∙ ap (λ n. spool_calls puts + n) (length-map {B = HostCall} (append_calls gate payload) (λ call. (journal_of (ready a), call))))
 

@@ -23,7 +23,7 @@ use Rattle.nqs_net.specs.declared.world.World.{World}
 
 -- the active journal of a host
 abbrev pub active_in : Host → Active
-active_in host = record { second = is_second host.root; records = host.records }
+active_in host = record { second = is_second host.root; records = host.records; is_old = host.is_old }
 
 -- After so many calls, this many are left until one is to fail, and each later one.
 abbrev pub IsFuse : Option ℕ → ℕ → (ℕ → Bool) → Type 0

@@ -29,6 +29,7 @@ fn body_kind(body: &Body) -> BodyKind
         Body::Answer { .. } => BodyKind::Answer,
         Body::Ended { .. } => BodyKind::Ended,
         Body::EndedAck { .. } => BodyKind::EndedAck,
+        Body::Piece { .. } => BodyKind::Piece,
     }
 }
 

@@ -3,6 +3,7 @@ use Rattle.std.proofs.Common.{◌≡◌, ℕ, List, [], ◌++◌, map, option_ma
 use Rattle.std.proofs.lemmas.List.{append-nil}
 use Rattle.nqs_types.specs.declared.event.Output.{Output}
 use Rattle.nqs_base.specs.declared.extent.Extent.{Extent}
+use Rattle.nqs_rules.specs.Plain.{map_state}
 use Rattle.nqs_rules.specs.Start.{start}
 use Rattle.nqs_rules.specs.Starts.{after_step}
 use Rattle.nqs_rules.specs.Stepped.{Stepped, quiet, map_stepped, shown}
@@ -13,6 +14,12 @@ use Rattle.nqs_node.specs.Carried.{started}
 use Rattle.nqs_node.proofs.Planning.{started_is}
 
 -- a start, seen from its plan
+
+-- whatever stands for the bytes it is the same
+pub started_filled : (now : ℕ) (old : Host) (bytes : Extent → List ℕ) → start now (map_state bytes old) ≡ option_map (map_stepped bytes) (start now old)
+    → (done : Stepped Extent) → start now old ≡ Some done → started now (map_state bytes old) ≡ map_stepped bytes done
+started_filled now old bytes alike done picked =
+    started_is now (map_state bytes old) (Some (map_stepped bytes done)) (alike ∙ ap (option_map (map_stepped bytes)) picked)
 
 module _ (now : ℕ) (old : Host) (alike : start now (emptied old) ≡ option_map (map_stepped (λ _. [])) (start now old)) where
   -- it starts without the bytes too

@@ -93,8 +93,16 @@ loaded_is store host told bytes s same is e = (λ j. map_state (extent_bytes (sa
 -- disks that tell a state name their active journal
 pub active_told : (images : Which → List ℕ) (s : Plain) → IsTold images s → (a : Active) × IsActive images a
 active_told images s told = (
-  record { second = is_second (images Root); records = length told.is.payloads },
-  record { named = refl; version = told.is.version; snapshot = told.is.snapshot; payloads = told.is.payloads; stands = told.is.stands; many = refl },
+  record { second = is_second (images Root); records = length told.is.payloads; is_old = _ },
+  record {
+    named = refl;
+    form = told.is.form;
+    snapshot = told.is.snapshot;
+    payloads = told.is.payloads;
+    stands = told.is.stands;
+    many = refl;
+    old = refl;
+  },
 )
 
 -- what a call leaves whose fault is told as one of a boot

@@ -1,7 +1,8 @@
 -- The plan of what is done at a host may be carried out, and does it.
-use Rattle.std.proofs.Common.{◌≡◌, ℕ, ◌+◌, ◌++◌, IsTrue, List, [], ◌∷◌, map, length, Option, option_map, Some, None, IfSome, refl, sym, ap, subst, ◌∙◌}
+use Rattle.std.proofs.Common.{◌≡◌, ℕ, ◌+◌, ◌++◌, IsTrue, true, nat_le, List, [], ◌∷◌, map, length, Option, option_map, Some, None, IfSome, refl, sym, ap, subst}
+use Rattle.std.proofs.Common.{◌∙◌}
 use Rattle.std.proofs.Common.{append_assoc, arith}
-use Rattle.std.specs.List.{AllByRecursion}
+use Rattle.std.specs.List.{AllByRecursion, list_all}
 use Rattle.std.proofs.lemmas.List.{length-map}
 use Rattle.std.proofs.lemmas.Option.{same_Some, none-some}
 use Rattle.nqs_state.specs.State.{Plain}
@@ -11,17 +12,17 @@ use Rattle.nqs_types.specs.declared.change.Change.{Change}
 use Rattle.nqs_types.specs.declared.change.Change.TheVariants.{Ended, Boot, HandsSilent}
 use Rattle.nqs_types.specs.declared.event.Output.{Output}
 use Rattle.nqs_types.specs.declared.event.Plan.{Plan}
-use Rattle.nqs_records.specs.Values.{IsExtent}
+use Rattle.nqs_records.specs.Values.{IsPlaced}
 use Rattle.nqs_rules.specs.Edits.{change_at}
-use Rattle.nqs_rules.specs.Filled.{filled}
+use Rattle.nqs_rules.specs.Filled.{filled, filled_parts}
 use Rattle.nqs_rules.specs.Fits.{fits}
-use Rattle.nqs_rules.specs.Sane.{is_sane_change}
+use Rattle.nqs_rules.specs.Sane.{is_sane_change, is_short_change}
 use Rattle.nqs_rules.specs.Start.{start}
 use Rattle.nqs_rules.specs.Stepped.{Stepped, Pending, quiet, map_part, map_pending, map_stepped, part_bytes, stored_parts, no_extent, with_bytes, shown}
 use Rattle.nqs_rules.specs.Stepped.{puts_of, output_of, read_at, reads_from, plan_of}
 use Rattle.nqs_rules.proofs.FilledLemmas.{filled-plan}
 use Rattle.nqs_rules.proofs.FitsPlain.{fits-change}
-use Rattle.nqs_store.specs.Puts.{IsShortPut}
+use Rattle.nqs_store.specs.Puts.{length_of}
 use Rattle.nqs_store.specs.Told.{Host}
 use Rattle.nqs_host_laws.specs.Offers.{takes_back_few}
 use Rattle.nqs_host_laws.specs.Reads.{IsLive, AreLive}
@@ -55,22 +56,44 @@ bare_stored (Ended id parts) = ended_stored parts
 bare_stored Boot = refl
 bare_stored c = refl
 
-none_stand : (bytes : List (List ℕ)) → AllByRecursion IsExtent (map (λ _. no_extent) bytes)
+none_stand : (bytes : List (List ℕ)) → AllByRecursion IsPlaced (map (λ _. no_extent) bytes)
 none_stand [] = tt
-none_stand (b ∷ bs) = ((omega arith, refl), none_stand bs)
+none_stand (b ∷ bs) = (omega arith, none_stand bs)
+
+-- nothing has been stored for it
+parts_small : (parts : List (OutPart (List ℕ))) → list_all (λ (part : OutPart Extent). nat_le part.bytes.length 32768) (map (map_part (λ _. no_extent)) parts)
+    ≡ true
+parts_small [] = refl
+parts_small (part ∷ parts) = parts_small parts
+
+bare_small : (c : Change (List ℕ)) → IsTrue (is_short_change length_of (bare c))
+bare_small (Ended id parts) = parts_small parts
+bare_small Boot = refl
+bare_small c = refl
+
+-- with its bytes it is the change again
+filled_parts_bare : (parts : List (OutPart (List ℕ))) → filled_parts (map (map_part (λ _. no_extent)) parts) (map part_bytes parts) ≡ parts
+filled_parts_bare [] = refl
+filled_parts_bare (part ∷ parts) = ap (λ ps. part ∷ ps) (filled_parts_bare parts)
+
+filled_bare : (c : Change (List ℕ)) → filled (bare c) (stored_parts c) ≡ c
+filled_bare (Ended id parts) = ap (Ended id) (filled_parts_bare parts)
+filled_bare Boot = refl
+filled_bare c = refl
 
 module _ (host : Host) where
   change_may : (o : Kept) → IfSome o (λ c. IsTrue (fits c host) × IsTrue (is_sane_change c)) → IfSome o (λ c. IsTrue (takes_back_few c))
-      → AllByRecursion IsShortPut (puts_of o)
+      → IfSome o (λ c. IsTrue (is_short_change length c))
       → IfSome (option_map bare o) (MayBeKept host (puts_of o))
   change_may None fit few short = tt
   change_may (Some c) fit few short = record {
     fit = fits-change (λ _. no_extent) c host ∙ fit.0;
     sane = sane_bare c ∙ fit.1;
     few = few_bare c ∙ few;
-    extents = subst (λ (xs : List Extent). AllByRecursion IsExtent xs) (sym (bare_stored c)) (none_stand (stored_parts c));
+    extents = subst (λ (xs : List Extent). AllByRecursion IsPlaced xs) (sym (bare_stored c)) (none_stand (stored_parts c));
+    small = bare_small c;
     as_many = sym (ap length (bare_stored c) ∙ length-map (stored_parts c) (λ _. no_extent));
-    short = short;
+    short = subst (λ k. is_short_change length k ≡ true) (sym (filled_bare c)) short;
   }
 
   reads_live : (n : ℕ) (ps : List (Pending Extent)) → AreLive host ps → AreLiveReads host (reads_from n ps)
@@ -125,7 +148,7 @@ kept_with done (Some c) is = record {
 
 module _ (done : Stepped Extent) (plan : Plan) (is : plan ≡ plan_of done) where
   pub may_be_done : (host : Host) → IfSome done.change (λ c. IsTrue (fits c host) × IsTrue (is_sane_change c))
-      → IfSome done.change (λ c. IsTrue (takes_back_few c)) → AllByRecursion IsShortPut (puts_of done.change)
+      → IfSome done.change (λ c. IsTrue (takes_back_few c)) → IfSome done.change (λ c. IsTrue (is_short_change length c))
       → AreLive host done.outputs → MayBeDone host plan
   may_be_done host fit few short live = subst (MayBeDone host) (sym is) (record
       { kept = change_may host done.change fit few short; live = reads_live host 0 done.outputs live })

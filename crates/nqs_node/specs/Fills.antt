@@ -1,6 +1,5 @@
 -- What reading the bytes of outputs leaves of the outputs, and of the store.
-use Rattle.std.specs.Prelude.{◌≡◌, ◌≤◌, ℕ, List, [], IsTrue, OnOk, IfErr, IsErrOf, map, length}
-use Rattle.std.specs.List.{AllByRecursion}
+use Rattle.std.specs.Prelude.{◌≡◌, ◌≤◌, ℕ, List, IsTrue, OnOk, IfErr, IsErrOf, map, length}
 use Rattle.std.specs.declared.result.Result.{Result}
 use Rattle.nqs_types.specs.declared.event.Output.{Output}
 use Rattle.nqs_types.specs.declared.event.PlanRead.{PlanRead}
@@ -15,7 +14,7 @@ use Rattle.nqs_store.specs.declared.fault.StoreFault.{StoreFault}
 use Rattle.nqs_store.specs.declared.fault.StoreFault.TheVariants as fault
 use Rattle.nqs_store.specs.declared.store.Store.{Store}
 use Rattle.nqs_back.specs.Bare.{without_bytes}
-use Rattle.nqs_node.specs.Reading.{read_into, IsLiveRead, AreLiveReads, IsShortRead, AreShort}
+use Rattle.nqs_node.specs.Reading.{read_into, zeros, IsLiveRead, AreLiveReads, AreShort}
 
 module _ {D : Type 0} {g : disk.Ghosts D} {T : Type 0} (old : Store D g) where
   -- The bytes of one output are read, and nothing else of the outputs changes.
@@ -38,8 +37,8 @@ module _ {D : Type 0} {g : disk.Ghosts D} {T : Type 0} (old : Store D g) where
     pub alike : map without_bytes after ≡ map without_bytes before
     -- of live extents they are what these have
     pub filled : IsTrue g.tells → (host : Host) → Tells old host → AreLiveReads host reads → OnOk result (after ≡ read_into (bytes_of old) reads before)
-    -- whatever the disk is, what is sent is short where it is so without its bytes
-    pub short : AllByRecursion IsShortRead reads → AreShort (read_into (λ _. []) reads before) → OnOk result (AreShort after)
+    -- whatever the disk is, what is sent is short where as many zeros are
+    pub short : AreShort (read_into zeros reads before) → OnOk result (AreShort after)
 
 module _ {D : Type 0} {g : disk.Ghosts D} {T : Type 0} (old now : Store D g) where
   -- The spool was read, and the store stays as it is.

@@ -17,7 +17,7 @@ use Rattle.nqs_back.specs.Bare.{emptied, blank, without_bytes}
 use Rattle.nqs_node.specs.Carried.{after_kept, IsMade, IsCutBy, IsBrokenOff, IsOneOrOther, IsBlown}
 use Rattle.nqs_node.specs.Nodes as nodes
 use Rattle.nqs_node.specs.Planned.{Does}
-use Rattle.nqs_node.specs.Reading.{AreShort}
+use Rattle.nqs_node.specs.Reading.{zeros, AreShort}
 use Rattle.nqs_store.specs.declared.fault.StoreFault.{StoreFault}
 use Rattle.nqs_store.specs.declared.fault.StoreFault.TheVariants as fault
 use Rattle.nqs_node.specs.declared.node.Node.{Node}
@@ -75,9 +75,8 @@ module _ {D : Type 0} {g : disk.Ghosts D} {T : Type 0} (old now : Node D g) (sai
     pub bare : OnOk result (nodes.bare now ≡ after_change (option_map blank plan.change) (nodes.bare old))
     -- and what goes out are the outputs, but for these bytes
     pub alike : OnOk result (map without_bytes says ≡ map without_bytes said ++ map without_bytes plan.outputs)
-    -- whatever the disks are, what is sent is short, where what the plan does is so without its
-    -- bytes
-    pub short : (done : Stepped (List ℕ)) → Does (λ _. []) plan done → AreShort said → AreShort (map shown done.outputs) → OnOk result (AreShort says)
+    -- whatever the disks are, what is sent is short, where what the plan does with as many zeros is
+    pub short : (done : Stepped (List ℕ)) → Does zeros plan done → AreShort said → AreShort (map shown done.outputs) → OnOk result (AreShort says)
     -- it does what the plan does
     pub carries : (done : Stepped (List ℕ)) → Does (nodes.bytes_of old) plan done → Carries done result
 
@@ -88,8 +87,8 @@ module _ {D : Type 0} {g : disk.Ghosts D} {T : Type 0} (old now : Node D g) (sai
     -- and what goes out is the step's, but for these bytes
     pub alike : OnOk result (map without_bytes says ≡ map without_bytes said ++ map without_bytes (map shown (step (nodes.bare old)).outputs))
     -- whatever the disks are, what is sent carries no more than may be sent, where what the step
-    -- sends does without its bytes
-    pub short : AreShort said → AreShort (map shown (step (nodes.bare old)).outputs) → OnOk result (AreShort says)
+    -- sends does with as many zeros
+    pub short : AreShort said → AreShort (map shown (step (nodes.sized old)).outputs) → OnOk result (AreShort says)
     -- At Ok its disks tell the state after the step, and what goes out is the step's; just the
     -- calls of its change's commit were made, or a part of them; at each moment, whatever images
     -- the disks may leave, they tell the state before the step or the one after it.

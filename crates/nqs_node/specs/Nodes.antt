@@ -7,7 +7,9 @@ use Rattle.nqs_outside.specs.History.{History}
 use Rattle.nqs_outside.specs.declared.disk.Disk as disk
 use Rattle.nqs_store.specs.Active.{Active}
 use Rattle.nqs_store.specs.Stores as store
+use Rattle.nqs_rules.specs.Plain.{map_state}
 use Rattle.nqs_back.specs.Bare.{emptied}
+use Rattle.nqs_node.specs.Reading.{zeros}
 use Rattle.nqs_node.specs.declared.node.Node.{Node}
 
 module _ {D : Type 0} {g : disk.Ghosts D} where
@@ -46,6 +48,10 @@ module _ {D : Type 0} {g : disk.Ghosts D} where
   -- its state without the bytes of its extents, which every disk leaves as the rules say
   abbrev pub bare : Node D g → Plain
   bare node = emptied (content_of node)
+
+  -- its state with as many zeros as it has bytes, which tells how much is sent
+  abbrev pub sized : Node D g → Plain
+  sized node = map_state zeros (content_of node)
 
   -- an earlier call was answered `Disk`
   abbrev pub is_stopped : Node D g → Bool

@@ -5,12 +5,12 @@ use Rattle.std.specs.Option.{option_map}
 use Rattle.nqs_base.specs.declared.extent.Extent.{Extent}
 use Rattle.nqs_types.specs.declared.change.Change.{Change}
 use Rattle.nqs_types.specs.declared.event.Plan.{Plan}
-use Rattle.nqs_records.specs.Values.{IsExtent}
+use Rattle.nqs_records.specs.Values.{IsPlaced}
 use Rattle.nqs_rules.specs.Filled.{filled}
 use Rattle.nqs_rules.specs.Fits.{fits}
-use Rattle.nqs_rules.specs.Sane.{is_sane_change}
+use Rattle.nqs_rules.specs.Sane.{is_sane_change, is_short_change}
 use Rattle.nqs_rules.specs.Stepped.{Stepped, puts_of, stored_parts, shown}
-use Rattle.nqs_store.specs.Puts.{IsShortPut}
+use Rattle.nqs_store.specs.Puts.{AreShortFor, length_of}
 use Rattle.nqs_store.specs.Told.{Host}
 use Rattle.nqs_host_laws.specs.Offers.{takes_back_few}
 use Rattle.nqs_node.specs.Carried.{Kept}
@@ -21,9 +21,10 @@ pub record MayBeKept (host : Host) (bytes : List (List ℕ)) (change : Change Ex
   pub fit : IsTrue (fits change host)
   pub sane : IsTrue (is_sane_change change)
   pub few : IsTrue (takes_back_few change)
-  pub extents : AllByRecursion IsExtent (stored_parts change)
+  pub extents : AllByRecursion IsPlaced (stored_parts change)
+  pub small : IsTrue (is_short_change length_of change)
   pub as_many : length bytes ≡ length (stored_parts change)
-  pub short : AllByRecursion IsShortPut bytes
+  pub short : AreShortFor change bytes
 
 -- with these bytes it is what is to be kept
 pub record IsKeptWith (change : Option (Change Extent)) (bytes : List (List ℕ)) (kept : Kept) : Type 0 where

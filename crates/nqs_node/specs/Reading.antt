@@ -1,5 +1,5 @@
 -- Bytes that are read for outputs.
-use Rattle.std.specs.Prelude.{◌≡◌, ℕ, ◌+◌, Bool, true, List, [], ◌∷◌, Option, None, Some}
+use Rattle.std.specs.Prelude.{◌≡◌, ℕ, ◌+◌, Bool, true, List, [], ◌∷◌, Option, None, Some, replicate}
 use Rattle.std.specs.List.{AllByRecursion, list_all}
 use Rattle.nqs_base.specs.declared.extent.Extent.{Extent}
 use Rattle.nqs_types.specs.declared.event.Output.{Output}
@@ -8,11 +8,10 @@ use Rattle.nqs_types.specs.declared.message.Body.{Body}
 use Rattle.nqs_types.specs.declared.message.Body.TheVariants.{Offer, Stage}
 use Rattle.nqs_types.specs.declared.event.PlanRead.{PlanRead}
 use Rattle.nqs_rules.specs.Edits.{change_at}
-use Rattle.nqs_rules.specs.Sane.{is_short_script}
+use Rattle.nqs_rules.specs.Sane.{is_short_script, is_short_file}
 use Rattle.nqs_rules.specs.Stepped.{Pending, with_bytes}
 use Rattle.nqs_spool.specs.Extents.{Has}
 use Rattle.nqs_store.specs.Live.{live}
-use Rattle.nqs_store.specs.Sound.{is_short_extent}
 use Rattle.nqs_store.specs.Told.{Host}
 
 -- how many reads the bytes of an output take
@@ -38,14 +37,14 @@ IsLiveRead host read = Has (live host) read.extent
 abbrev pub AreLiveReads : Host → List PlanRead → Type 0
 AreLiveReads host reads = AllByRecursion (IsLiveRead host) reads
 
--- no more is read than a message may carry
-abbrev pub IsShortRead : PlanRead → Type 0
-IsShortRead read = is_short_extent read.extent ≡ true
+-- as many zeros as an extent has bytes, in their place
+abbrev pub zeros : Extent → List ℕ
+zeros extent = replicate extent.length 0
 
 -- the script or output that a message carries is short enough
 abbrev pub carries_short : Body → Bool
 carries_short (Offer _ _ _ _ script) = is_short_script script
-carries_short (Stage _ _ bytes) = is_short_script bytes
+carries_short (Stage _ _ bytes) = is_short_file bytes
 carries_short _ = true
 
 -- so it is with what is sent

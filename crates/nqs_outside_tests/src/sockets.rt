@@ -90,3 +90,57 @@ fn a_daemons_sender_is_noted(rt: HostRuntime) -> Result<(), Fail> {
     assert_eq!(rt; noted_sender(&rt)?, [true; 4]);
     Ok(())
 }
+
+// A piece of this index among so many, as `docs/formats.md` has it, without its bytes.
+fn piece(index: u8, count: u8) -> [u8; 21] {
+    [
+        2, 14, 0, 0, 10, 0, 9, 0, 0, 0, 0, 0, 0, 0, 5, index, count, 0, 0, 0, 0,
+    ]
+}
+
+// What the next receive brings.
+fn next(rt: &HostRuntime, wire: &mut UdpWire) -> Result<Option<Received>, Fail> {
+    let mut buf = vec![in rt.alloc(); 0u8; 49_185]?;
+    Ok(wire.receive(&mut buf).ok())
+}
+
+// Whether these pieces come, and behind them, where the wait is of 20 milliseconds, a quiet that
+// waited a tenth of a second for the next one.
+fn waits_behind(rt: &HostRuntime, pieces: &[(u8, u8)]) -> Result<[bool; 3], Fail> {
+    let site = site_of_alpha(rt)?;
+    let mut daemon = UdpWire::of_daemon(*rt, &site, HOST, 20, LastSender::unnoted())?;
+    let (mut client, _) = UdpWire::of_client(*rt, &site, 20)?;
+    let mut comes = true;
+    for (index, count) in pieces {
+        let sent = client.send(Address::Host(HOST), &piece(*index, *count)) == Ok(());
+        comes = comes && sent && next(rt, &mut daemon)? == Some(Received::Datagram(21));
+    }
+    let began = Instant::now(rt)?;
+    let is_quiet = next(rt, &mut daemon)? == Some(Received::Quiet);
+    let took = Instant::now(rt)?.saturating_duration_since(began);
+    Ok([comes, is_quiet, took >= Duration::from_millis(50)])
+}
+
+// The first piece of a message, one in its midst, and one that is the last of another.
+#[test]
+fn a_quiet_waits_for_pieces(rt: HostRuntime) -> Result<(), Fail> {
+    assert_eq!(rt; waits_behind(&rt, &[(0, 3)])?, [true; 3]);
+    assert_eq!(rt; waits_behind(&rt, &[(0, 3), (1, 3)])?, [true; 3]);
+    assert_eq!(rt; waits_behind(&rt, &[(0, 3), (0, 2), (1, 2)])?, [true; 3]);
+    Ok(())
+}
+
+// A large datagram comes whole.
+#[test]
+fn large_datagrams_come_whole(rt: HostRuntime) -> Result<(), Fail> {
+    let site = site_of_alpha(&rt)?;
+    let mut daemon = UdpWire::of_daemon(rt, &site, HOST, 1000, LastSender::unnoted())?;
+    let (mut client, _) = UdpWire::of_client(rt, &site, 20)?;
+    let mut buf = vec![in rt.alloc(); 0u8; 49_185]?;
+    let large = vec![in rt.alloc(); 7u8; 49_184]?;
+    let sent = client.send(Address::Host(HOST), &large) == Ok(());
+    let comes = daemon.receive(&mut buf) == Ok(Received::Datagram(49_184));
+    let is_whole = buf.get(..49_184) == Some(large.as_slice());
+    assert_eq!(rt; [sent, comes, is_whole], [true; 3]);
+    Ok(())
+}

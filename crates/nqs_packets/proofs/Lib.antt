@@ -4,6 +4,10 @@ pub mod BodyLaws
 pub mod MessageLaws
 pub mod Spelled
 pub mod SaneLaws
+pub mod PieceLaws
+pub mod Lengths
+pub mod PieceReads
+pub mod LetterLaws
 pub mod Fields
 pub mod Bodies
 pub mod FirstFaults

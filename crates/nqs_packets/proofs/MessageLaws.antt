@@ -5,6 +5,7 @@ use Rattle.nqs_base.proofs.Readings.{given, bound, bind, passed}
 use Rattle.nqs_base.proofs.Plain.{rest_behind}
 use Rattle.nqs_types.specs.declared.message.Body.{Body}
 use Rattle.nqs_types.specs.declared.message.Body.TheVariants.{Offer, Ready, Refused, Commit, Done, Inquire, Abort, Stage, Staged, Ask, Answer, Ended, EndedAck}
+use Rattle.nqs_types.specs.declared.message.Body.TheVariants.{Piece}
 use Rattle.nqs_types.specs.declared.message.Message.{Message}
 use Rattle.nqs_codec.specs.Fields.{u8_field}
 use Rattle.nqs_codec.specs.Takes.{Stands}
@@ -78,6 +79,7 @@ kind_small (Ask port token user tool words script) = (omega arith, refl)
 kind_small (Answer token good text) = (omega arith, refl)
 kind_small (Ended port id start status output error) = (omega arith, refl)
 kind_small (EndedAck id start) = (omega arith, refl)
+kind_small (Piece kind port number index count bytes) = (omega arith, refl)
 
 kind_taken : (b : Body) (bytes rest : List ℕ) (place : ℕ) → AreBytes bytes → drop place bytes ≡ u8_field (kind_of b) ++ rest
     → kind_at bytes place ≡ Ok (kind_of b, place + length (u8_field (kind_of b)))
@@ -86,7 +88,7 @@ kind_taken b bytes rest place fits is =
     let small = kind_small b in
     bind (u8_at bytes place) _ _ _ (u8_read.taken bytes rest place (kind_of b) fits small.0 is) (rw small.1 refl)
 
-four : (place : ℕ) (a b c d : List ℕ) → place + length a + length b + length c + length d ≡ place + length (a ++ (b ++ (c ++ (d ++ []))))
+pub four : (place : ℕ) (a b c d : List ℕ) → place + length a + length b + length c + length d ≡ place + length (a ++ (b ++ (c ++ (d ++ []))))
 four place a b c d = omega (arith, length-append a (b ++ (c ++ (d ++ []))), length-append b (c ++ (d ++ [])), length-append c (d ++ []), length-append d [])
 
 message_taken : (m : Message) (bytes rest : List ℕ) (place : ℕ) → AreBytes bytes → MaySend m → drop place bytes ≡ behind m ++ rest

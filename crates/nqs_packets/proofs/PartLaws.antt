@@ -8,7 +8,7 @@ use Rattle.nqs_base.proofs.Readings.{bound, bind, passed, faultless}
 use Rattle.nqs_types.specs.declared.message.Tool.{Tool}
 use Rattle.nqs_types.specs.declared.message.Tool.TheVariants.{Qsub, Qstat, Qdel, Qmgr, Tick}
 use Rattle.nqs_rules.specs.Sane.{is_offer_refusal}
-use Rattle.nqs_codec.specs.Fields.{u8_field, u32_field, u64_field, bytes_field}
+use Rattle.nqs_codec.specs.Fields.{u8_field, u16_field, u32_field, u64_field, bytes_field}
 use Rattle.nqs_codec.specs.Takes.{IsLong}
 use Rattle.nqs_codec.proofs.Places.{part_stands}
 use Rattle.nqs_records.specs.declared.fault.RecordFault.TheVariants.{BadField, Short}
@@ -19,9 +19,11 @@ use Rattle.nqs_records.proofs.Numbers.{u8_read, u16_read, u32_read, u64_read}
 use Rattle.nqs_records.proofs.Chains.{Found, both_read, within_read, counted_read, mapped_where}
 use Rattle.nqs_records.proofs.ShapeLaws.{same_read}
 use Rattle.nqs_records.proofs.Whole.{not_short}
+use Rattle.nqs_records.specs.Fields.{u8_at, u16_at}
+use Rattle.nqs_packets.specs.Parts.{is_piece_kind, is_piece_port, is_piece_count, is_piece_length}
 use Rattle.nqs_packets.specs.Parts.{is_number, number_at, cause_at, run_at, bytes_at, is_any, is_tool, tool_of, tool_at, is_word_count, words_at}
 use Rattle.nqs_packets.specs.Spelling.{tool_number, words_field}
-use Rattle.nqs_packets.specs.Values.{IsNumber, IsCause, IsShort, AreWords}
+use Rattle.nqs_packets.specs.Values.{IsNumber, IsCause, IsShort, AreWords, IsPieceKind, IsPiecePort, IsPieceCount, IsPieceBytes}
 
 -- a value of its kind that passes a test
 tested_read : {A : Type 0} {IsA : A → Type 0} {f : A → List ℕ} {r : Reading A} (test : A → Bool) → IsRead IsA f r
@@ -75,6 +77,20 @@ bytes_law test =
 
 pub short_law : (limit : ℕ) → IsRead (IsShort limit) bytes_field (bytes_at (is_at_most limit))
 short_law limit = bytes_law (is_at_most limit)
+
+-- ---- pieces
+
+pub piece_kind_law : IsRead IsPieceKind u8_field (within is_piece_kind u8_at)
+piece_kind_law = tested_read is_piece_kind u8_read
+
+pub piece_port_law : (kind : ℕ) → IsRead (IsPiecePort kind) u16_field (within (is_piece_port kind) u16_at)
+piece_port_law kind = tested_read (is_piece_port kind) u16_read
+
+pub piece_count_law : (index : ℕ) → IsRead (IsPieceCount index) u8_field (within (is_piece_count index) u8_at)
+piece_count_law index = tested_read (is_piece_count index) u8_read
+
+pub piece_bytes_law : (index count : ℕ) → IsRead (IsPieceBytes index count) bytes_field (bytes_at (is_piece_length index count))
+piece_bytes_law index count = bytes_law (is_piece_length index count)
 
 pub long_law : IsRead IsLong bytes_field (bytes_at is_any)
 long_law = same_read (λ l is. is.1) (λ l is. (refl, is)) (bytes_law is_any)

@@ -3,11 +3,14 @@ use Rattle.std.proofs.Common.{◌≡◌, ℕ, ◌<◌, ◌^◌, true, ◌&&◌, 
 use Rattle.std.proofs.Common.{refl, arith}
 use Rattle.std.proofs.lemmas.Bool.{and_parts, and_from, leb-true}
 use Rattle.nqs_base.specs.Path.{is_path}
+use Rattle.nqs_types.specs.Scripts.{longest_script}
 use Rattle.nqs_types.specs.declared.request.Job.{Job}
 use Rattle.nqs_types.specs.declared.request.Carried.{Carried}
 use Rattle.nqs_types.specs.declared.message.Body.{Body}
 use Rattle.nqs_types.specs.declared.message.Body.TheVariants.{Offer, Ready, Refused, Commit, Done, Inquire, Abort, Stage, Staged, Ask, Answer, Ended, EndedAck}
-use Rattle.nqs_rules.specs.Sane.{is_of_site, is_offer_refusal, is_sane_low, is_sane_id, is_sane_job, is_sane_carried, is_short_script, is_sane_body}
+use Rattle.nqs_types.specs.declared.message.Body.TheVariants.{Piece}
+use Rattle.nqs_rules.specs.Sane.{is_of_site, is_offer_refusal, is_sane_low, is_sane_id, is_sane_job, is_sane_carried, is_short_script, is_short_file}
+use Rattle.nqs_rules.specs.Sane.{is_sane_body}
 use Rattle.nqs_records.specs.Values.{IsJob, IsCarried, IsHost}
 use Rattle.nqs_rules.proofs.PathStands.{path_stands}
 use Rattle.nqs_records.proofs.SaneLaws.{starts_few, path_sane, carried_sane}
@@ -40,6 +43,7 @@ body_short (Ask port token user tool words script) ok = ok.4.0
 body_short (Answer token good text) ok = refl
 body_short (Ended port id start status output error) ok = and_from _ _ ok.4.0 ok.5.0
 body_short (EndedAck id start) ok = refl
+body_short (Piece kind port number index count bytes) ok = refl
 
 pub what_is_read_is_short : WhatIsReadIsShort
 what_is_read_is_short bytes m fits is = body_short m.body (is_spelled bytes m fits is).1.2
@@ -68,7 +72,7 @@ body_is (Offer n l q c s) said sane =
     let x = and_parts (nat_le 1 n && is_sane_low l n && is_sane_carried c && is_of_site 16 c.id.host) (is_short_script s) sane in
     let y = and_parts (nat_le 1 n && is_sane_low l n && is_sane_carried c) (is_of_site 16 c.id.host) x.0 in
     let z = and_parts (nat_le 1 n && is_sane_low l n) (is_sane_carried c) y.0 in
-    (said.0, (and_parts (nat_le 1 n) (is_sane_low l n) z.0).1, said.1, carried_is c said.2 y.1 z.1, short_is 32768 s (omega arith) x.1)
+    (said.0, (and_parts (nat_le 1 n) (is_sane_low l n) z.0).1, said.1, carried_is c said.2 y.1 z.1, short_is longest_script s (omega arith) x.1)
 body_is (Ready n) said sane = said
 body_is (Refused n cause) said sane = (said.0, ((and_parts (nat_le 1 n) (is_offer_refusal cause) sane).1, said.1))
 body_is (Commit n) said sane = said
@@ -76,13 +80,14 @@ body_is (Done n) said sane = said
 body_is (Inquire n) said sane = said
 body_is (Abort n) said sane = said
 body_is (Stage n path output) said sane =
-    let x = and_parts (nat_le 1 n && is_path path) (is_short_script output) sane in
+    let x = and_parts (nat_le 1 n && is_path path) (is_short_file output) sane in
     (said, path_stands path (and_parts (nat_le 1 n) (is_path path) x.0).1, short_is 32768 output (omega arith) x.1)
 body_is (Staged n) said sane = said
 body_is (Ask port token user tool words script) said sane = absurd said
 body_is (Answer token good text) said sane = absurd said
 body_is (Ended port id start status output error) said sane = absurd said
 body_is (EndedAck id start) said sane = absurd said
+body_is (Piece kind port number index count bytes) said sane = absurd said
 
 pub what_is_sane_may_be_sent : WhatIsSaneMaySend
 what_is_sane_may_be_sent m said to sane =

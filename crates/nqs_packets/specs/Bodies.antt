@@ -1,20 +1,23 @@
 -- Readings of what each kind of datagram says.
 use Rattle.std.specs.Prelude.{List, [], ◌∷◌, Err}
+use Rattle.nqs_types.specs.Scripts.{longest_script}
 use Rattle.nqs_types.specs.declared.message.Body.{Body}
 use Rattle.nqs_types.specs.declared.message.Body.TheVariants.{Offer, Ready, Refused, Commit, Done, Inquire, Abort, Stage, Staged, Ask, Answer, Ended, EndedAck}
+use Rattle.nqs_types.specs.declared.message.Body.TheVariants.{Piece}
 use Rattle.nqs_records.specs.declared.fault.RecordFault.TheVariants.{Kind}
 use Rattle.nqs_records.specs.Values.{is_at_most}
-use Rattle.nqs_records.specs.Reading.{Reading, mapped, both}
+use Rattle.nqs_records.specs.Reading.{Reading, mapped, both, within}
 use Rattle.nqs_records.specs.Fields.{u8_at, u16_at, u64_at, bool_at, name_at, path_at}
 use Rattle.nqs_records.specs.Parts.{id_at, carried_at, low_at}
 use Rattle.nqs_packets.specs.Parts.{is_any, number_at, cause_at, bytes_at, tool_at, words_at}
+use Rattle.nqs_packets.specs.Parts.{is_piece_kind, is_piece_port, is_piece_count, is_piece_length}
 
 -- an offer of a request: the handover's number and its low, the queue that it is for, what is
 -- carried, and its script
 unfoldable pub offer_at : Reading Body
 offer_at =
     mapped (λ v. Offer v.0 v.1.0 v.1.1.0 v.1.1.1.0 v.1.1.1.1)
-    (both number_at λ number. both (low_at number) λ _. both name_at λ _. both carried_at λ _. bytes_at (is_at_most 32768))
+    (both number_at λ number. both (low_at number) λ _. both name_at λ _. both carried_at λ _. bytes_at (is_at_most longest_script))
 
 -- that the request of this handover is stored at the receiver
 unfoldable pub ready_at : Reading Body
@@ -54,7 +57,7 @@ staged_at = mapped (λ n. Staged n) number_at
 unfoldable pub ask_at : Reading Body
 ask_at =
     mapped (λ v. Ask v.0 v.1.0 v.1.1.0 v.1.1.1.0 v.1.1.1.1.0 v.1.1.1.1.1)
-    (both u16_at λ _. both u64_at λ _. both name_at λ _. both tool_at λ tool. both (words_at tool) λ _. bytes_at (is_at_most 32768))
+    (both u16_at λ _. both u64_at λ _. both name_at λ _. both tool_at λ tool. both (words_at tool) λ _. bytes_at (is_at_most longest_script))
 
 -- the answer to a client: the token of its ask, whether that was done, and a text
 unfoldable pub answer_at : Reading Body
@@ -70,11 +73,19 @@ ended_at =
 unfoldable pub ended_ack_at : Reading Body
 ended_ack_at = mapped (λ v. EndedAck v.0 v.1) (both id_at λ _. u16_at)
 
+-- a piece of a long message: its kind's number, its port and number, which piece this is, how many
+-- there are, and its bytes
+unfoldable pub piece_at : Reading Body
+piece_at =
+    mapped (λ v. Piece v.0 v.1.0 v.1.1.0 v.1.1.1.0 v.1.1.1.1.0 v.1.1.1.1.1)
+    (both (within is_piece_kind u8_at) λ kind. both (within (is_piece_port kind) u16_at) λ _. both number_at λ _. both u8_at λ index.
+    both (within (is_piece_count index) u8_at) λ count. bytes_at (is_piece_length index count))
+
 -- the kinds, in the order of their numbers
 unfoldable pub bodies : List (Reading Body)
 bodies =
     offer_at ∷ ready_at ∷ refused_at ∷ commit_at ∷ done_at ∷ inquire_at ∷ abort_at ∷ stage_at ∷ staged_at
-    ∷ ask_at ∷ answer_at ∷ ended_at ∷ ended_ack_at ∷ []
+    ∷ ask_at ∷ answer_at ∷ ended_at ∷ ended_ack_at ∷ piece_at ∷ []
 
 -- there is no such kind, which is found at the second byte
 abbrev pub no_body : Reading Body

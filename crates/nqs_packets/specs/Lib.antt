@@ -4,4 +4,5 @@ pub mod Spelling
 pub mod Values
 pub mod Reading
 pub mod Messages
+pub mod Letters
 pub mod Faults

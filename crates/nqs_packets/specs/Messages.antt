@@ -1,14 +1,18 @@
 -- Bytes and the messages that they spell.
-use Rattle.std.specs.Prelude.{◌≡◌, ◌↔◌, ℕ, Bool, true, ◌&&◌, List, Ok}
+use Rattle.std.specs.Prelude.{◌≡◌, ◌↔◌, ℕ, Bool, true, ◌&&◌, IsTrue, List, Ok}
 use Rattle.nqs_base.specs.Name.{IsName}
 use Rattle.nqs_types.specs.declared.request.Job.{Job}
 use Rattle.nqs_types.specs.declared.message.Body.{Body}
 use Rattle.nqs_types.specs.declared.message.Body.TheVariants.{Offer, Ready, Refused, Commit, Done, Inquire, Abort, Stage, Staged, Ask, Answer, Ended, EndedAck}
+use Rattle.nqs_types.specs.declared.message.Body.TheVariants.{Piece}
 use Rattle.nqs_types.specs.declared.message.Message.{Message}
 use Rattle.nqs_rules.specs.Sane.{is_of_site, is_short_script, is_short_output, is_sane_message}
 use Rattle.nqs_records.specs.Changes.{AreBytes}
+use Rattle.nqs_pieces.specs.Pieces.{IsPiece}
+use Rattle.nqs_pieces.specs.declared.piece.Piece.{Piece as MessagePiece}
+use Rattle.nqs_packets.specs.Parts.{is_piece_kind, is_piece_port}
 use Rattle.nqs_packets.specs.Spelling.{spelling}
-use Rattle.nqs_records.specs.Values.{IsU8, IsU64, IsOpt, IsHost}
+use Rattle.nqs_records.specs.Values.{IsU8, IsU16, IsU64, IsOpt, IsHost}
 use Rattle.nqs_packets.specs.Values.{IsNumber, MaySend}
 use Rattle.nqs_packets.specs.Reading.{message_of}
 
@@ -70,7 +74,28 @@ IsSaid (Ask port token user tool words script) = ⊥
 IsSaid (Answer token ok text) = ⊥
 IsSaid (Ended port id start status out err) = ⊥
 IsSaid (EndedAck id start) = ⊥
+IsSaid (Piece kind port number index count bytes) = ⊥
 
 -- what a host says may be sent where the rules call it sane
 abbrev pub WhatIsSaneMaySend : Type 0
 WhatIsSaneMaySend = (message : Message) → IsSaid message.body → IsHost message.to → is_sane_message 16 message ≡ true → MaySend message
+
+-- a piece, as a datagram
+abbrev pub in_datagram : MessagePiece → Message
+in_datagram p = record { from = p.from; to = p.to; body = Piece p.kind p.port p.number p.index p.count p.bytes }
+
+-- a piece that is read is in form
+abbrev pub WhatIsReadIsInForm : Type 0
+WhatIsReadIsInForm = (bytes : List ℕ) (piece : MessagePiece) → AreBytes bytes → message_of bytes ≡ Ok (in_datagram piece) → IsPiece piece
+
+-- what a piece says of its message is within its limits
+pub record IsOfMessage (piece : MessagePiece) : Type 0 where
+  pub from : IsHost piece.from
+  pub to : IsHost piece.to
+  pub kind : IsTrue (is_piece_kind piece.kind)
+  pub port : IsTrue (is_piece_port piece.kind piece.port)
+  pub number : IsNumber piece.number
+
+-- a piece in form may be sent where what it says of its message is within its limits
+abbrev pub WhatIsInFormMaySend : Type 0
+WhatIsInFormMaySend = (piece : MessagePiece) → IsU16 piece.port → IsOfMessage piece → IsPiece piece → MaySend (in_datagram piece)

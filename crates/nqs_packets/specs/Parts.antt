@@ -1,5 +1,5 @@
 -- Readings of what datagrams have beside the fields of records.
-use Rattle.std.specs.Prelude.{◌≡◌, ℕ, ◌+◌, Bool, true, ◌&&◌, ◌==◌, nat_le, nat_lt, List, [], ◌∷◌, length, take, drop, if◌then◌else◌, Ok, Err}
+use Rattle.std.specs.Prelude.{◌≡◌, ℕ, ◌+◌, Bool, true, ◌&&◌, ◌||◌, ◌==◌, nat_le, nat_lt, List, [], ◌∷◌, length, take, drop, if◌then◌else◌, Ok, Err}
 use Rattle.nqs_types.specs.declared.message.Tool.{Tool}
 use Rattle.nqs_types.specs.declared.message.Tool.TheVariants.{Qsub, Qstat, Qdel, Qmgr, Tick}
 use Rattle.nqs_rules.specs.Sane.{is_offer_refusal}
@@ -36,8 +36,8 @@ abbrev pub IsThere : {A : Type 0} → Read A → Type 0
 IsThere {A} (Ok a) = Unit {0}
 IsThere {A} (Err fault) = ⊥
 
--- Memory is wanting only where the value is there: what is too short is short, whatever memory there
--- is, and none is asked for what isn't there.
+-- Memory is wanting only where the value is there: what is too short is short, whatever memory
+-- there is, and none is asked for what isn't there.
 abbrev pub WantsWhatIsThere : {A : Type 0} → Read A → Read A → Type 0
 WantsWhatIsThere {A} read answer = is_memory answer ≡ true → IsThere read
 
@@ -74,3 +74,21 @@ is_word_count Tick n = n == 0
 -- a tool's words, as many as it may have
 unfoldable pub words_at : Tool → Reading (List (List ℕ))
 words_at tool = counted (within (is_word_count tool) u16_at) (bytes_at is_any)
+
+-- ---- pieces of long messages
+
+-- a piece is of an offer, which is kind 1, or of an ask, which is kind 10
+abbrev pub is_piece_kind : ℕ → Bool
+is_piece_kind kind = kind == 1 || kind == 10
+
+-- an offer has no port
+abbrev pub is_piece_port : ℕ → ℕ → Bool
+is_piece_port kind port = kind == 10 || port == 0
+
+-- there are 2 to 22 pieces, this one among them
+abbrev pub is_piece_count : ℕ → ℕ → Bool
+is_piece_count index count = nat_le 2 count && nat_le count 22 && nat_lt index count
+
+-- each piece has 48,000 bytes, the last from 1 to that
+abbrev pub is_piece_length : ℕ → ℕ → ℕ → Bool
+is_piece_length index count length = if nat_lt (index + 1) count then length == 48000 else nat_le 1 length && nat_le length 48000

@@ -4,6 +4,7 @@ use Rattle.nqs_types.specs.declared.message.Tool.{Tool}
 use Rattle.nqs_types.specs.declared.message.Tool.TheVariants.{Qsub, Qstat, Qdel, Qmgr, Tick}
 use Rattle.nqs_types.specs.declared.message.Body.{Body}
 use Rattle.nqs_types.specs.declared.message.Body.TheVariants.{Offer, Ready, Refused, Commit, Done, Inquire, Abort, Stage, Staged, Ask, Answer, Ended, EndedAck}
+use Rattle.nqs_types.specs.declared.message.Body.TheVariants.{Piece}
 use Rattle.nqs_types.specs.declared.message.Message.{Message}
 use Rattle.nqs_codec.specs.Fields.{u8_field, u16_field, u64_field, bytes_field, short_field, bool_field}
 use Rattle.nqs_records.specs.Spelling.{fields, id_field, carried_field}
@@ -35,6 +36,7 @@ kind_of (Ask port token user tool words script) = 10
 kind_of (Answer token ok text) = 11
 kind_of (Ended port id start status out err) = 12
 kind_of (EndedAck id start) = 13
+kind_of (Piece kind port number index count bytes) = 14
 
 -- the fields of a kind
 unfoldable pub body_field : Body → List ℕ
@@ -54,6 +56,8 @@ body_field (Answer token ok text) = fields (u64_field token ∷ bool_field ok �
 body_field (Ended port id start status out err) =
     fields (u16_field port ∷ id_field id ∷ u16_field start ∷ u8_field status ∷ bytes_field out ∷ bytes_field err ∷ [])
 body_field (EndedAck id start) = fields (id_field id ∷ u16_field start ∷ [])
+body_field (Piece kind port number index count bytes) =
+    fields (u8_field kind ∷ u16_field port ∷ u64_field number ∷ u8_field index ∷ u8_field count ∷ bytes_field bytes ∷ [])
 
 -- the version, the kind, the sender, the receiver, and the fields of the kind
 unfoldable pub spelling : Message → List ℕ

@@ -10,7 +10,7 @@ use nqs_records::{
     RecordFault, read_bool, read_carried, read_id, read_low, read_name, read_path, read_u8,
     read_u16, read_u64,
 };
-use nqs_types::Body;
+use nqs_types::{Body, LONGEST_SCRIPT};
 use std::alloc::Global;
 
 #[tactic(auto, unfolding(crate::specs::Bodies::offer_at))]
@@ -25,7 +25,7 @@ pub(crate) fn read_offer(
     let (low, place) = read_low(bytes, place, number)?;
     let (queue, place) = read_name(bytes, place)?;
     let (carried, place) = read_carried(alloc, bytes, place)?;
-    let (script, place) = read_short_bytes(alloc, bytes, place, 32_768)?;
+    let (script, place) = read_short_bytes(alloc, bytes, place, LONGEST_SCRIPT)?;
     let body = Body::Offer {
         number,
         low,
@@ -121,7 +121,7 @@ pub(crate) fn read_ask(alloc: Global, bytes: &[u8], place: u64) -> Result<(Body,
     let (user, place) = read_name(bytes, place)?;
     let (tool, place) = read_tool(bytes, place)?;
     let (words, place) = read_words(alloc, bytes, place, tool)?;
-    let (script, place) = read_short_bytes(alloc, bytes, place, 32_768)?;
+    let (script, place) = read_short_bytes(alloc, bytes, place, LONGEST_SCRIPT)?;
     let body = Body::Ask {
         port,
         token,

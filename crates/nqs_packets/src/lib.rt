@@ -9,20 +9,26 @@
 //! Fields are read in order, and the first fault is the answer. A value that is not all there is
 //! `Short`; one that is there and is past its limits is `BadField` at its first byte, and for bytes
 //! at the first byte of their length.
+//!
+//! A message that is longer than a datagram goes out in pieces (`letters`), each a datagram.
 #![tactic(auto)]
 
 mod fault;
 mod kinds;
 mod laws;
+mod letters;
 mod part;
+mod pieces;
 mod put;
 mod read;
 mod write;
 
 pub use fault::PacketFault;
 pub use laws::{
-    first_faults, reads_the_spelling, what_is_read_is_sane, what_is_read_is_short,
-    what_is_sane_may_be_sent,
+    each_letter_fits, first_faults, pieces_are_read_back, reads_the_spelling,
+    what_is_in_form_may_be_sent, what_is_read_is_in_form, what_is_read_is_sane,
+    what_is_read_is_short, what_is_sane_may_be_sent, what_is_short_may_go,
 };
+pub use letters::{letters_of, number_in};
 pub use read::read_message;
-pub use write::write_message;
+pub use write::{kind_of, write_message};

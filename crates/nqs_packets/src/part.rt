@@ -56,7 +56,7 @@ pub(crate) fn read_cause(bytes: &[u8], place: u64) -> Result<(u8, u64), RecordFa
 }
 
 #[tactic(auto, unfolding(crate::specs::Parts::run_at))]
-fn read_run(
+pub(crate) fn read_run(
     alloc: Global,
     bytes: &[u8],
     place: u64,

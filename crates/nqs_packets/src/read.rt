@@ -12,6 +12,7 @@ use crate::kinds::{
     read_inquire, read_offer, read_ready, read_refused, read_stage, read_staged,
 };
 use crate::part::InDatagram;
+use crate::pieces::read_piece;
 use nqs_records::{Read, RecordFault, read_alone, read_host, read_u8};
 use nqs_types::{Body, Message};
 use std::alloc::Global;
@@ -34,6 +35,7 @@ fn read_body(alloc: Global, kind: u8, bytes: &[u8], place: u64) -> Result<(Body,
         11 => read_answer(alloc, bytes, place),
         12 => read_ended(alloc, bytes, place),
         13 => read_ended_ack(bytes, place),
+        14 => read_piece(alloc, bytes, place),
         _ => Err(RecordFault::Kind(1)),
     }
 }
@@ -43,7 +45,7 @@ fn read_kind(bytes: &[u8], place: u64) -> Result<(u8, u64), RecordFault>
     ensures { result ≡ kind_at bytes.now place }
 {
     let (kind, next) = read_u8(bytes, place)?;
-    if 1 <= kind && kind <= 13 {
+    if 1 <= kind && kind <= 14 {
         Ok((kind, next))
     } else {
         Err(RecordFault::Kind(place))

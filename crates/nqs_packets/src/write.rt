@@ -8,6 +8,7 @@ ghost use Rattle.nqs_records.specs.Spelling.{fields};
 ghost use Rattle.nqs_packets.specs.Spelling.{kind_of, body_field, spelling};
 ghost use Rattle.nqs_packets.specs.Values.{IsBody, MaySend};
 
+use crate::pieces::put_piece;
 use crate::put::{
     put_answer, put_ask, put_ended, put_ended_ack, put_number, put_offer, put_refused, put_stage,
 };
@@ -16,7 +17,8 @@ use nqs_codec::put_u8;
 use nqs_types::{Body, Message};
 use std::alloc::Global;
 
-fn kind_of(body: &Body) -> u8
+/// The number of a kind.
+pub fn kind_of(body: &Body) -> u8
     ensures { result ≡ kind_of body.now }
 {
     match body {
@@ -33,6 +35,7 @@ fn kind_of(body: &Body) -> u8
         Body::Answer { .. } => 11,
         Body::Ended { .. } => 12,
         Body::EndedAck { .. } => 13,
+        Body::Piece { .. } => 14,
     }
 }
 
@@ -95,6 +98,21 @@ fn put_body(body: &Body, out: &mut Vec<u8>) -> Result<(), Memory>
             out,
         ),
         Body::EndedAck { id, start } => put_ended_ack(*id, *start, out),
+        Body::Piece {
+            kind,
+            port,
+            number,
+            index,
+            count,
+            bytes,
+        } => put_piece(
+            *kind,
+            *port,
+            *number,
+            (*index, *count),
+            bytes.as_slice(),
+            out,
+        ),
     }
 }
 

@@ -5,4 +5,6 @@
 #[cfg(test)]
 mod packets;
 #[cfg(test)]
+mod pieces;
+#[cfg(test)]
 mod turned;

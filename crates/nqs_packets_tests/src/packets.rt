@@ -8,7 +8,7 @@ use std::rt::HostRuntime;
 
 const DONE: &[u8] = b"\x02\x05\x01\x00\x00\x00\x00\x00\x00\x00\x00\x01";
 
-const OFFER: &[u8] =
+pub(crate) const OFFER: &[u8] =
     b"\x02\x01\x00\x01\x00\x00\x00\x00\x00\x00\x00\x02\x00\x00\x00\x00\x00\x00\x00\x01\
 \x05batch\x00\x00\x00\x07\x00\x01j\x03ann\x1f\x00\x00\x00\x00\x00\x00\x00\x00\x01\x00\x00\x00\x04j.o7\x04j.e7\x00\
 \x00\x03\x00\x03\x02\x00\x00\x00\x02hi";
@@ -22,7 +22,7 @@ const ONLY_OFFER: &[u8] =
 const ASK: &[u8] = b"\x02\x0a\x00\x00\x00\x09\x00\x00\x00\x00\x00\x00\x00\x05\x03ann\x03\
 \x00\x02\x00\x00\x00\x02-k\x00\x00\x00\x077.alpha\x00\x00\x00\x00";
 
-pub(crate) static MESSAGES: [&[u8]; 13] = [
+pub(crate) static MESSAGES: [&[u8]; 14] = [
     OFFER,
     b"\x02\x02\x01\x00\xff\xff\xff\xff\xff\xff\xff\xff",
     b"\x02\x03\x01\x00\x00\x00\x00\x00\x00\x00\x00\x01\x21",
@@ -36,10 +36,11 @@ pub(crate) static MESSAGES: [&[u8]; 13] = [
     b"\x02\x0b\x00\x00\x00\x00\x00\x00\x00\x00\x00\x05\x01\x00\x00\x00\x0b0 requests.",
     b"\x02\x0c\x00\x00\x00\x09\x00\x00\x00\x07\x00\x00\x01\x7f\x00\x00\x00\x00\x00\x00\x00\x03err",
     b"\x02\x0d\x00\x00\xff\xff\xff\xfe\x0f\xff\xff",
+    b"\x02\x0e\x00\x01\x01\x00\x00\x00\x00\x00\x00\x00\x00\x00\x02\x01\x02\x00\x00\x00\x03end",
 ];
 
 // Whether the datagram is read, and written as these bytes.
-fn is_written_again(alloc: Global, bytes: &[u8]) -> bool {
+pub(crate) fn is_written_again(alloc: Global, bytes: &[u8]) -> bool {
     let mut out = Vec::new(alloc);
     let written = match &read_message(alloc, bytes) {
         Ok(message) => write_message(alloc, message, &mut out).is_ok(),
@@ -135,7 +136,7 @@ pub(crate) fn fault(alloc: Global, bytes: &[u8]) -> Option<PacketFault> {
 }
 
 // Bytes that are no datagram, and their first fault.
-static FAULTS: [(&[u8], PacketFault); 26] = [
+static FAULTS: [(&[u8], PacketFault); 27] = [
     (b"", PacketFault::Short(0)),
     (b"\x00", PacketFault::Version),
     (b"\x01", PacketFault::Version),
@@ -184,7 +185,8 @@ static FAULTS: [(&[u8], PacketFault); 26] = [
         PacketFault::BadField(3),
     ),
     (b"\x02\x00", PacketFault::Kind),
-    (b"\x02\x0e\x10\x10", PacketFault::Kind),
+    (b"\x02\x0f\x10\x10", PacketFault::Kind),
+    (b"\x02\x0e\x10\x10", PacketFault::BadField(2)),
     (b"\x02\x05\x10\x10", PacketFault::BadField(2)),
     (
         b"\x02\x05\x01\x00\x00\x00\x00\x00\x00\x00\x00\x00",

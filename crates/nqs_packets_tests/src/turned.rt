@@ -60,7 +60,7 @@ type Run = (usize, usize, Fault);
 /// For each of the datagrams the runs of bytes that give a fault where they are 0, 7f and ff. Each
 /// other byte may be so. In a name or a path each byte may be wrong by itself: no letter, digit or
 /// other sign that stands there is any of these three.
-static TURNED: [[&[Run]; 3]; 13] = [
+static TURNED: [[&[Run]; 3]; 14] = [
     // OFFER: the number at 4, its low at 12, the queue at 20, the request at 26 and 30, its name at
     // 31 and owner at 33, the priority at 37, rerun at 46, three values that may be missing from 47
     // on, two paths at 50 and 55, join at 60, starts at 61, lost at 63, hops at 65, the script at
@@ -112,8 +112,8 @@ static TURNED: [[&[Run]; 3]; 13] = [
             (60, 60, Here),
             (61, 64, Is(BadField(63))),
             (65, 65, Here),
-            (66, 68, Is(BadField(66))),
-            (69, 69, Is(Short(72))),
+            (66, 67, Is(BadField(66))),
+            (68, 69, Is(Short(72))),
         ],
     ],
     // READY: a number with no byte that is 0.
@@ -196,8 +196,8 @@ static TURNED: [[&[Run]; 3]; 13] = [
             (18, 18, Here),
             (19, 24, Is(Short(42))),
             (27, 30, Is(Short(42))),
-            (38, 40, Is(BadField(38))),
-            (41, 41, Is(Short(42))),
+            (38, 39, Is(BadField(38))),
+            (40, 41, Is(Short(42))),
         ],
     ],
     // ANSWER: whether it was done at 12, the text at 13, of any length.
@@ -237,6 +237,42 @@ static TURNED: [[&[Run]; 3]; 13] = [
             (2, 3, Here),
             (7, 7, Is(BadField(4))),
             (8, 8, Here),
+        ],
+    ],
+    // PIECE: the kind of its message at 4, the port at 5, the number at 7, the index at 15, the
+    // count at 16, the bytes at 17. As the first of two it would have more bytes; as one of more
+    // than 22 it is none.
+    [
+        &[
+            (0, 0, Is(Version)),
+            (1, 1, Is(Kind)),
+            (4, 4, Here),
+            (14, 14, Is(BadField(7))),
+            (15, 15, Is(BadField(17))),
+            (16, 16, Here),
+            (20, 20, Is(BadField(17))),
+        ],
+        &[
+            (0, 0, Is(Version)),
+            (1, 1, Is(Kind)),
+            (2, 3, Here),
+            (4, 4, Here),
+            (5, 6, Is(BadField(5))),
+            (15, 15, Is(BadField(16))),
+            (16, 16, Here),
+            (17, 18, Is(BadField(17))),
+            (19, 20, Is(Short(24))),
+        ],
+        &[
+            (0, 0, Is(Version)),
+            (1, 1, Is(Kind)),
+            (2, 3, Here),
+            (4, 4, Here),
+            (5, 6, Is(BadField(5))),
+            (15, 15, Is(BadField(16))),
+            (16, 16, Here),
+            (17, 19, Is(BadField(17))),
+            (20, 20, Is(Short(24))),
         ],
     ],
 ];

@@ -1,6 +1,6 @@
 //! Long messages in pieces: a message that no datagram holds is cut into pieces (`cutting`), each
 //! goes in a datagram of its own (`piece`), and the receiver gathers them in any order
-//! (`gather`, `slots`). `laws` has what follows for callers. No program uses it yet.
+//! (`gather`, `slots`). `laws` has what follows for callers.
 #![tactic(auto)]
 
 mod cutting;

@@ -63,7 +63,7 @@ pub struct MessageKey {
 
 impl MessageKey {
     /// The key of a piece.
-    pub(crate) fn of(piece: &Piece) -> MessageKey
+    pub fn of(piece: &Piece) -> MessageKey
         ensures { result ≡ key_of piece.now }
     {
         MessageKey {

@@ -6,6 +6,7 @@ use Rattle.std.proofs.lemmas.List.{drop_all}
 use Rattle.std.proofs.lemmas.Bool.{ltb-true, ltb-false, leb-true, leb-false}
 use Rattle.nqs_base.proofs.Readings.{Reads, refused, bound, failed, reads-bind, reads-map}
 use Rattle.nqs_base.proofs.Plain.{no_two}
+use Rattle.nqs_types.specs.Scripts.{longest_script}
 use Rattle.nqs_types.specs.declared.fault.WordsFault.{WordsFault}
 use Rattle.nqs_types.specs.declared.fault.WordsCause.TheVariants as cause
 use Rattle.nqs_types.specs.declared.event.Submission.{Submission}
@@ -240,25 +241,26 @@ reads-both words script =
 
 reads : (words : List (List ℕ)) (script : List ℕ) → Reads (qsub_options words script) (Says words script) (Faults words script)
 unfolding qsub_options
-reads words script = by (nat_lt 32768 (length script)) refl
+reads words script = by (nat_lt longest_script (length script)) refl
   where
-    by : (t : Bool) → nat_lt 32768 (length script) ≡ t → Reads (cond t (Err (fault_at 0 0 cause.ScriptTooLong)) (both_options words script)) (Says words script)
+    by : (t : Bool) → nat_lt longest_script (length script) ≡ t → Reads (cond t (Err (fault_at 0 0 cause.ScriptTooLong)) (both_options words script))
+        (Says words script)
         (Faults words script)
     by true e = (
-      (λ o. ((λ h. cc), (λ h. no_two 32768 (length script) (ltb-true 32768 (length script) e) h.0))),
-      (λ x. ((λ h. inl (ltb-true 32768 (length script) e, cc)), from x)),
+      (λ o. ((λ h. cc), (λ h. no_two longest_script (length script) (ltb-true longest_script (length script) e) h.0))),
+      (λ x. ((λ h. inl (ltb-true longest_script (length script) e, cc)), from x)),
     )
       where
         from : (x : WordsFault) → Faults words script x → ◌≡◌ {A = Read Options} (Err (fault_at 0 0 cause.ScriptTooLong)) (Err x)
         from x (inl h) = ap (λ (y : WordsFault). Err y) (sym h.1)
-        from x (inr h) = no_two 32768 (length script) (ltb-true 32768 (length script) e) h.0
+        from x (inr h) = no_two longest_script (length script) (ltb-true longest_script (length script) e) h.0
     by false e = (
-      (λ o. ((λ h. (ltb-false 32768 (length script) e, ((reads-both words script).0 o).0 h)), (λ h. ((reads-both words script).0 o).1 h.1))),
-      (λ x. ((λ h. inr (ltb-false 32768 (length script) e, ((reads-both words script).1 x).0 h)), from x)),
+      (λ o. ((λ h. (ltb-false longest_script (length script) e, ((reads-both words script).0 o).0 h)), (λ h. ((reads-both words script).0 o).1 h.1))),
+      (λ x. ((λ h. inr (ltb-false longest_script (length script) e, ((reads-both words script).1 x).0 h)), from x)),
     )
       where
         from : (x : WordsFault) → Faults words script x → both_options words script ≡ Err x
-        from x (inl h) = no_two 32768 (length script) h.0 (ltb-false 32768 (length script) e)
+        from x (inl h) = no_two longest_script (length script) h.0 (ltb-false longest_script (length script) e)
         from x (inr h) = ((reads-both words script).1 x).1 h.1
 
 -- ---- the laws

@@ -1,6 +1,7 @@
 -- The first fault of a submission, apart from how it is read: the words before it give options, and
 -- the word at its place doesn't give one more.
 use Rattle.std.specs.Prelude.{◌≡◌, ◌⊎◌, ℕ, ◌+◌, ◌≤◌, ◌<◌, true, false, List, [], ◌∷◌, length, take, drop, Option, Some, None, Err}
+use Rattle.nqs_types.specs.Scripts.{longest_script}
 use Rattle.nqs_types.specs.declared.fault.WordsFault.{WordsFault}
 use Rattle.nqs_types.specs.declared.fault.WordsCause.{WordsCause}
 use Rattle.nqs_types.specs.declared.fault.WordsCause.TheVariants as cause
@@ -83,7 +84,7 @@ PathsFail words script o fault =
 -- paths that don't fit into the folder
 abbrev pub Faults : List (List ℕ) → List ℕ → WordsFault → Type 0
 Faults words script fault =
-    ((32768 < length script) × (fault ≡ fault_at 0 0 cause.ScriptTooLong))
-    ⊎ ((length script ≤ 32768) × (WordsFail Command words [] 0 0 no_options fault
+    ((longest_script < length script) × (fault ≡ fault_at 0 0 cause.ScriptTooLong))
+    ⊎ ((length script ≤ longest_script) × (WordsFail Command words [] 0 0 no_options fault
     ⊎ ((command : Options) × WordsGive Command words [] 0 0 no_options command × (ScriptFails script fault
     ⊎ ((scripted : Options) × ScriptGives script scripted × PathsFail words script (merged command scripted) fault)))))

@@ -2,6 +2,7 @@
 use Rattle.std.specs.Prelude.{◌≡◌, ℕ, Bool, not, ◌||◌, nat_lt, nat_le, List, [], length, codes, Option, Some, None, is_some, unwrap_or, if◌then◌else◌, Ok, Err}
 use Rattle.std.specs.Option.{option_or}
 use Rattle.std.specs.declared.result.Result.{Result}
+use Rattle.nqs_types.specs.Scripts.{longest_script}
 use Rattle.nqs_types.specs.declared.fault.WordsFault.{WordsFault}
 use Rattle.nqs_types.specs.declared.fault.WordsCause.TheVariants as cause
 use Rattle.nqs_types.specs.declared.event.Submission.{Submission}
@@ -63,7 +64,7 @@ both_options words script = do
 
 -- the options of a submission, or the first fault
 unfoldable pub qsub_options : List (List ℕ) → List ℕ → Read Options
-qsub_options words script = if nat_lt 32768 (length script) then Err (fault_at 0 0 cause.ScriptTooLong) else both_options words script
+qsub_options words script = if nat_lt longest_script (length script) then Err (fault_at 0 0 cause.ScriptTooLong) else both_options words script
 
 -- the job that the options ask for; without them it is named `STDIN`, has priority 31 and is
 -- rerunnable

@@ -1,5 +1,6 @@
 -- The grammar: which words and which scripts give which options, apart from how they are read.
 use Rattle.std.specs.Prelude.{◌≡◌, ◌⊎◌, ℕ, ◌+◌, ◌≤◌, true, false, List, [], ◌∷◌, length, take, drop, Option, Some, None, Ok}
+use Rattle.nqs_types.specs.Scripts.{longest_script}
 use Rattle.nqs_qsub.specs.declared.token.Source.{Source}
 use Rattle.nqs_qsub.specs.declared.token.Source.TheVariants.{Command, Script}
 use Rattle.nqs_qsub.specs.declared.token.Token.{Token}
@@ -83,5 +84,5 @@ PathsFit words script o = PathFits words script o.folder o.out × PathFits words
 -- script's; the paths fit into the folder
 abbrev pub Says : List (List ℕ) → List ℕ → Options → Type 0
 Says words script o =
-    (length script ≤ 32768) × ((command : Options) × WordsGive Command words [] 0 0 no_options command
+    (length script ≤ longest_script) × ((command : Options) × WordsGive Command words [] 0 0 no_options command
     × ((scripted : Options) × ScriptGives script scripted × (PathsFit words script (merged command scripted) × (o ≡ merged command scripted))))

@@ -3,6 +3,7 @@
 //! lines are remarks.
 
 ghost use Rattle.std.specs.Prelude.{◌≡◌, ◌+◌, ◌≤◌, [], length, take, drop};
+ghost use Rattle.nqs_types.specs.Scripts.{longest_script};
 ghost use Rattle.nqs_qsub.specs.declared.token.Source.TheVariants.{Script};
 ghost use Rattle.nqs_qsub.specs.Script.{has_mark, has_hash, ends_line, line_kind, line_end, next_line, line_options, script_options};
 ghost use Rattle.nqs_qsub.specs.Options.{no_options, read_words};
@@ -150,9 +151,9 @@ fn line_options(
     }
 }
 
-/// The options of a script of at most 32,768 bytes, or the first fault with its line and word.
+/// The options of a script of at most 1,048,576 bytes, or the first fault with its line and word.
 pub(crate) fn script_options(script: &[u8]) -> Result<Options, WordsFault>
-    requires { length script.now ≤ 32768 }
+    requires { length script.now ≤ longest_script }
     ensures { result ≡ script_options (length script.now) script.now 1 0 no_options }
 {
     let mut options = no_options();

@@ -3,6 +3,7 @@
 //! have to fit with it.
 
 ghost use Rattle.std.specs.Prelude.{◌≡◌, ◌≤◌, length, codes, IfOk};
+ghost use Rattle.nqs_types.specs.Scripts.{longest_script};
 ghost use Rattle.nqs_rules.specs.Step.{within};
 ghost use Rattle.nqs_qsub.specs.Tokens.{fault_at};
 ghost use Rattle.nqs_qsub.specs.Qsub.{has_error, merged, fits, fitted, both_options, qsub_options, path_text, job, submission};
@@ -14,8 +15,11 @@ use crate::reading::read_words;
 use crate::script::script_options;
 use crate::token::{Source, Stated, fault_at, text_of};
 use nqs_base::{Bytes, Memory, Name};
-use nqs_types::{Job, Limits, Submission, WordsCause, WordsFault};
+use nqs_types::{Job, LONGEST_SCRIPT, Limits, Submission, WordsCause, WordsFault};
 use std::alloc::Global;
+
+// How many bytes a script has at most.
+const LONGEST: usize = LONGEST_SCRIPT as usize;
 
 fn has_error(options: &Options) -> bool
     ensures { result ≡ has_error options.now }
@@ -101,7 +105,7 @@ fn fitted(words: &[Bytes], script: &[u8], options: &Options) -> Result<Options, 
 
 #[tactic(auto, unfolding(crate::specs::Qsub::both_options))]
 fn both_options(words: &[Bytes], script: &[u8]) -> Result<Options, WordsFault>
-    requires { length script.now ≤ 32768 }
+    requires { length script.now ≤ longest_script }
     ensures { result ≡ both_options words.now script.now }
 {
     let command = read_words(13, Source::Command, words, b"", 0, 1, 0, no_options())?;
@@ -116,7 +120,7 @@ fn both_options(words: &[Bytes], script: &[u8]) -> Result<Options, WordsFault>
 fn qsub_options(words: &[Bytes], script: &[u8]) -> Result<Options, WordsFault>
     ensures { result ≡ qsub_options words.now script.now }
 {
-    if script.len() > 32_768 {
+    if script.len() > LONGEST {
         return Err(fault_at(0, 0, WordsCause::ScriptTooLong));
     }
     both_options(words, script)
@@ -259,7 +263,7 @@ fn read_keeping(
 }
 
 /// The submission of this user by these words and this script, or the first fault. A script above
-/// 32,768 bytes is `ScriptTooLong` at word 0, before all else; then come the command's words, then
+/// 1,048,576 bytes is `ScriptTooLong` at word 0, before all else; then come the command's words, then
 /// the script's lines, then paths that have over 255 bytes with the folder before them. Default
 /// paths of outputs are empty. Memory is taken for the paths and the script alone, so a fault is
 /// found without any.

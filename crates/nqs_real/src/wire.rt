@@ -6,21 +6,39 @@ ghost use Rattle.nqs_outside.specs.Asked.{IsWithin};
 use crate::counted::counted;
 use crate::sender::LastSender;
 use crate::site::SiteHost;
-use libc::net::{SO_RCVBUF, SOL_SOCKET, setsockopt};
+use libc::net::{SO_RCVBUF, SOL_SOCKET, getsockopt, setsockopt};
 use nqs_outside::{Address, Failed, Received, Wire};
 use nqs_types::HostId;
-use std::io;
 use std::io::ErrorKind;
 use std::net::{Ipv4Addr, SocketAddr, SocketAddrV4, UdpSocket};
 use std::os::fd::AsRawFd;
 use std::rt::HostRuntime;
 use std::time::{Duration, Instant};
+use std::{io, thread};
 
 /// A second, in milliseconds: the longest wait.
 const SECOND: u64 = 1000;
 
 /// For how many bytes of datagrams that wait to be received a socket asks: 8 MB.
 const ROOM: i32 = 8 << 20;
+
+/// The kind of a datagram that is a piece of a longer message, at its second byte.
+const PIECE: u8 = 14;
+
+/// Where a piece has its index among the pieces of its message, from 0, and how many these are.
+const INDEX: usize = 15;
+
+const COUNT: usize = 16;
+
+/// A datagram of more bytes is mostly a piece.
+const LARGE: usize = 40_000;
+
+/// The pause behind such a one that was sent, in milliseconds, where the system grants a socket less
+/// room than it asks for. One may hold only four of them then.
+const PAUSE: u64 = 5;
+
+/// How far behind one another the pieces of a message come at most, in milliseconds.
+const CLOSE: u64 = 100;
 
 // From where a socket takes datagrams.
 #[derive(Clone, Copy, Drop)]
@@ -37,7 +55,11 @@ enum Heard {
 /// what the system allows; one that finds no room is lost, as on any network. A receive waits at
 /// most until the wire's wait is over, which begins at the first receive and anew at the first one
 /// after each `Quiet`. So under any traffic a `Quiet` comes once a wait, and after it the next
-/// receive looks at the socket.
+/// receive looks at the socket. Where the first piece of a message came and the last one didn't, and
+/// pieces come close behind one another, a `Quiet` that is due waits for them, a second at most, so
+/// that it doesn't part a message. Which datagrams are pieces `docs/formats.md` says. Behind a large
+/// datagram that is sent there is a short pause where this socket has less room than 8 MB, and so
+/// the one that it is sent to, of the same machine or one like it, has hardly more.
 ///
 /// A daemon's socket takes datagrams from anywhere; from where the last one came, as the system
 /// says, is noted for its operator alone. That of a client or a shepherd is connected to the place
@@ -53,6 +75,13 @@ pub struct UdpWire {
     site: Vec<SiteHost>,
     wait: Duration,
     began: Option<Instant>,
+    // The system granted less room than was asked for.
+    is_narrow: bool,
+    // How many messages have begun since the last quiet, and not ended: the first pieces that came,
+    // less the last ones.
+    open: u32,
+    // When the last piece came, if one did since the last quiet.
+    piece: Option<Instant>,
     receive_faults: u64,
     send_faults: u64,
 }
@@ -67,6 +96,23 @@ fn ask_for_room(socket: &UdpSocket) {
     let mut value = [0; 16];
     value[..4].copy_from_slice(&ROOM.to_ne_bytes());
     let _ = unsafe { setsockopt(socket.as_raw_fd(), SOL_SOCKET, SO_RCVBUF, &value, 4) };
+}
+
+// Whether it has less room than was asked for. Of what it granted the system tells twice as much.
+fn is_narrow(socket: &UdpSocket) -> bool {
+    let mut value = [0; 16];
+    let mut length = 4;
+    let _ = unsafe {
+        getsockopt(
+            socket.as_raw_fd(),
+            SOL_SOCKET,
+            SO_RCVBUF,
+            &mut value,
+            &mut length,
+        )
+    };
+    let granted = i32::from_ne_bytes([value[0], value[1], value[2], value[3]]) / 2;
+    granted < ROOM
 }
 
 fn no_such_host() -> io::Error {
@@ -117,6 +163,7 @@ impl UdpWire {
     {
         let socket = UdpSocket::bind(&rt, own)?;
         ask_for_room(&socket);
+        let is_narrow = is_narrow(&socket);
         let site = site.to_vec(rt.alloc())?;
         Ok(UdpWire {
             rt,
@@ -126,6 +173,9 @@ impl UdpWire {
             site,
             wait: Duration::from_millis(wait.clamp(1, SECOND)),
             began: None,
+            is_narrow,
+            open: 0,
+            piece: None,
             receive_faults: 0,
             send_faults: 0,
         })
@@ -180,7 +230,24 @@ impl UdpWire {
         if !self.is_taken(place, bytes)? {
             self.is_taken(place, bytes)?;
         }
+        if self.is_narrow && bytes.len() > LARGE {
+            thread::sleep(&self.rt, Duration::from_millis(PAUSE));
+        }
         Ok(())
+    }
+
+    // How long a quiet that is due waits for the next piece, this time behind the beginning of the
+    // wait.
+    fn stays(&self, now: Instant, past: Duration) -> Option<Duration> {
+        if self.open == 0 {
+            return None;
+        }
+        let piece = self.piece?;
+        let close = Duration::from_millis(CLOSE);
+        let behind = close.checked_sub(now.saturating_duration_since(piece))?;
+        let most = self.wait.saturating_add(Duration::from_millis(SECOND));
+        let rest = most.checked_sub(past)?;
+        Some(if behind < rest { behind } else { rest })
     }
 
     // What is left of the wait; none where it is over.
@@ -196,11 +263,45 @@ impl UdpWire {
                 now
             }
         };
-        let left = self.wait.checked_sub(now.saturating_duration_since(began));
-        Ok(left.filter(|left| *left >= Duration::from_millis(1)))
+        let past = now.saturating_duration_since(began);
+        let least = Duration::from_millis(1);
+        match self.wait.checked_sub(past) {
+            Some(left) if left >= least => Ok(Some(left)),
+            _ => Ok(self.stays(now, past).filter(|left| *left >= least)),
+        }
     }
 
-    // What the socket gives within this time. None: word that nobody took an earlier datagram.
+    // This datagram came.
+    fn note(&mut self, datagram: &[u8]) -> io::Result<()>
+        ensures receive_faults { self.new.receive_faults ≡ self.old.receive_faults }
+        ensures send_faults { self.new.send_faults ≡ self.old.send_faults }
+    {
+        let Some((index, count)) = piece_of(datagram) else {
+            return Ok(());
+        };
+        self.piece = Some(Instant::now(&self.rt)?);
+        if index == 0 {
+            self.open = self.open.saturating_add(1);
+        } else if index.saturating_add(1) == count {
+            self.open = self.open.saturating_sub(1);
+        }
+        Ok(())
+    }
+
+    // The wait is over, and the next one begins anew.
+    fn end_wait(&mut self) -> Received
+        ensures quiet { result ≡ Received.Quiet }
+        ensures receive_faults { self.new.receive_faults ≡ self.old.receive_faults }
+        ensures send_faults { self.new.send_faults ≡ self.old.send_faults }
+    {
+        self.began = None;
+        self.open = 0;
+        self.piece = None;
+        Received::Quiet
+    }
+
+    // What the socket gives within this time. None: word that nobody took an earlier datagram, or
+    // nothing where a message has begun, so that what is left is looked at anew.
     fn look(&mut self, buf: &mut [u8], left: Duration) -> io::Result<Option<Received>>
         ensures within { IfOk result (λ r. IfSome r (λ r. IsWithin r (length buf.new))) }
         ensures same_length { length buf.new ≡ length buf.old }
@@ -211,13 +312,12 @@ impl UdpWire {
         match self.socket.recv_from(buf) {
             Ok((count, from)) => {
                 self.sender.note(from);
+                self.note(buf.get(..count).unwrap_or_default())?;
                 Ok(Some(Received::Datagram(count)))
             }
             Err(e) if e.kind() == ErrorKind::ConnectionRefused => Ok(None),
-            Err(e) if is_quiet(e.kind()) => {
-                self.began = None;
-                Ok(Some(Received::Quiet))
-            }
+            Err(e) if is_quiet(e.kind()) && self.open > 0 => Ok(None),
+            Err(e) if is_quiet(e.kind()) => Ok(Some(self.end_wait())),
             Err(e) => Err(e),
         }
     }
@@ -237,8 +337,19 @@ impl UdpWire {
                 return Ok(received);
             }
         }
-        self.began = None;
-        Ok(Received::Quiet)
+        Ok(self.end_wait())
+    }
+}
+
+// Which piece of its message a datagram is, and of how many, if it is one.
+fn piece_of(datagram: &[u8]) -> Option<(u8, u8)> {
+    let kind = *datagram.get(1)?;
+    let index = *datagram.get(INDEX)?;
+    let count = *datagram.get(COUNT)?;
+    if kind == PIECE {
+        Some((index, count))
+    } else {
+        None
     }
 }
 

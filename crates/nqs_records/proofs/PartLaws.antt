@@ -2,14 +2,17 @@
 use Rattle.std.proofs.Common.{ℕ, ◌<◌, ◌^◌, ◌==◌, IsTrue, refl, arith}
 use Rattle.std.proofs.lemmas.Bool.Decides.{nat_tests}
 use Rattle.nqs_base.specs.Name.{IsName}
+use Rattle.nqs_base.specs.declared.extent.Extent.{Extent}
+use Rattle.nqs_types.specs.Scripts.{longest_script}
 use Rattle.nqs_types.specs.declared.ids.HostId.{HostId}
 use Rattle.nqs_codec.specs.Fields.{u8_field, u32_field, u64_field, short_field}
 use Rattle.nqs_rules.specs.Sane.{is_sane_low}
 use Rattle.nqs_records.specs.Reading.{within, counted}
 use Rattle.nqs_records.specs.Fields.{u8_at, name_at}
-use Rattle.nqs_records.specs.Parts.{host_at, seq_at, id_at, extent_at, job_of, job_at, carried_at, part_at, hand_at, low_at}
+use Rattle.nqs_records.specs.Parts.{host_at, seq_at, id_at, extent_within, script_at, output_at, job_of, job_at, carried_at, part_at, hand_at, low_at}
 use Rattle.nqs_records.specs.Spelling.{list_field, id_field, extent_field, job_field, carried_field, part_field, hand_field}
-use Rattle.nqs_records.specs.Values.{is_host, is_seq, is_at_most, is_site_count, IsU8, IsList, IsHost, IsId, IsExtent, IsJob, IsCarried, IsPart, IsHand}
+use Rattle.nqs_records.specs.Values.{is_host, is_seq, is_at_most, is_site_count, IsU8, IsU64, IsList, IsHost, IsId, IsScript, IsOutput, IsJob, IsCarried}
+use Rattle.nqs_records.specs.Values.{IsPart, IsHand}
 use Rattle.nqs_records.proofs.IsRead.{IsRead}
 use Rattle.nqs_records.proofs.Numbers.{u8_read, u16_read, u32_read, u64_read}
 use Rattle.nqs_records.proofs.Named.{bool_read, name_read, path_read}
@@ -21,8 +24,8 @@ host_fits n is = grind (arith, nat_tests)
 seq_fits : (n : ℕ) → IsTrue (is_seq n) → n < 2 ^ 32
 seq_fits n is = grind (arith, nat_tests)
 
-length_fits : (n : ℕ) → IsTrue (is_at_most 32768 n) → n < 2 ^ 32
-length_fits n is = grind (arith, nat_tests)
+length_fits : (limit n : ℕ) → limit < 2 ^ 32 → IsTrue (is_at_most limit n) → n < 2 ^ 32
+length_fits limit n small is = grind (arith, nat_tests)
 
 pub priority_fits : (n : ℕ) → IsTrue (is_at_most 63 n) → n < 2 ^ 8
 priority_fits n is = grind (arith, nat_tests)
@@ -60,11 +63,19 @@ id_law =
     mapped_read IsId id_field (λ v. record { seq = v.0; host = v.1 }) (λ id. (id.seq, id.host)) (λ id. refl) (λ v is. is) (λ id is. is) (λ v. refl)
     (both_read seq_law (λ _ _. last_read host_law))
 
-pub extent_law : IsRead IsExtent extent_field extent_at
-unfolding extent_at extent_field
-extent_law =
-    mapped_read IsExtent extent_field (λ v. record { place = v.0; length = v.1 }) (λ e. (e.place, e.length)) (λ e. refl) (λ v is. is) (λ e is. is) (λ v. refl)
-    (both_read u64_read (λ _ _. last_read (within_read (is_at_most 32768) length_fits u32_read)))
+extent_law : (limit : ℕ) → limit < 2 ^ 32
+    → IsRead (λ (e : Extent). IsU64 e.place × IsTrue (is_at_most limit e.length)) extent_field (extent_within limit)
+unfolding extent_within extent_field
+extent_law limit small =
+    mapped_read (λ (e : Extent). IsU64 e.place × IsTrue (is_at_most limit e.length)) extent_field (λ v. record { place = v.0; length = v.1 })
+    (λ e. (e.place, e.length)) (λ e. refl) (λ v is. is) (λ e is. is) (λ v. refl)
+    (both_read u64_read (λ _ _. last_read (within_read (is_at_most limit) (λ n is. length_fits limit n small is) u32_read)))
+
+pub script_law : IsRead IsScript extent_field script_at
+script_law = extent_law longest_script (omega arith)
+
+pub output_law : IsRead IsOutput extent_field output_at
+output_law = extent_law 32768 (omega arith)
 
 pub job_law : IsRead IsJob job_field job_at
 unfolding job_at job_field
@@ -108,7 +119,7 @@ pub part_law : IsRead IsPart part_field part_at
 unfolding part_at part_field
 part_law =
     mapped_read IsPart part_field (λ v. record { path = v.0; bytes = v.1 }) (λ p. (p.path, p.bytes)) (λ p. refl) (λ v is. is) (λ p is. is) (λ v. refl)
-    (both_read path_read (λ _ _. last_read extent_law))
+    (both_read path_read (λ _ _. last_read output_law))
 
 pub hand_law : IsRead IsHand hand_field hand_at
 unfolding hand_at hand_field

@@ -23,11 +23,11 @@ pub length-u8 : (n : ℕ) → length (u8_field n) ≡ 1
 unfolding u8_field
 length-u8 n = refl
 
-length-u16 : (n : ℕ) → length (u16_field n) ≡ 2
+pub length-u16 : (n : ℕ) → length (u16_field n) ≡ 2
 unfolding u16_field
 length-u16 n = omega arith
 
-length-u32 : (n : ℕ) → length (u32_field n) ≡ 4
+pub length-u32 : (n : ℕ) → length (u32_field n) ≡ 4
 unfolding u32_field
 length-u32 n = omega arith
 
@@ -39,7 +39,7 @@ length-short : (bytes : List ℕ) → length (short_field bytes) ≡ length byte
 unfolding short_field
 length-short bytes = omega arith
 
-length-bool : (b : Bool) → length (bool_field b) ≡ 1
+pub length-bool : (b : Bool) → length (bool_field b) ≡ 1
 unfolding bool_field
 length-bool true = refl
 length-bool false = refl

@@ -9,7 +9,8 @@ use Rattle.nqs_types.specs.declared.change.Change.{Change}
 use Rattle.nqs_codec.specs.Fields.{u8_field, u64_field, short_field}
 use Rattle.nqs_records.specs.Spelling.{list_field, part_field, hand_field}
 use Rattle.nqs_records.specs.Values.{is_site_count, IsPart, IsHand}
-use Rattle.nqs_records.specs.KindFields.{Field, one_byte, eight_bytes, a_name, a_path, maybe, a_host, an_id, an_extent, a_job, a_carried, a_site, an_edit}
+use Rattle.nqs_records.specs.KindFields.{Field, one_byte, eight_bytes, a_name, a_path, maybe, a_host, an_id, a_script, an_output, a_job, a_carried, a_site}
+use Rattle.nqs_records.specs.KindFields.{an_edit}
 use Rattle.nqs_records.specs.KindFields.{outputs, handovers, with_low, IsValue, value_field}
 use Rattle.nqs_records.specs.KindTable.{kinds, hand_kinds, host_kinds}
 use Rattle.nqs_records.specs.Changes.{spelling, MayStand}
@@ -29,7 +30,8 @@ most a_path = 256
 most (maybe f) = 1 + most f
 most a_host = 1
 most an_id = 5
-most an_extent = 12
+most a_script = 12
+most an_output = 12
 most a_job = 590
 most a_carried = 600
 most a_site = 258
@@ -49,7 +51,8 @@ fields_short a_path bytes is = path_short bytes is
 fields_short (maybe f) v is = opt_short (IsValue f) (value_field f) (most f) (fields_short f) v is
 fields_short a_host h is = omega (arith, length-u8 h.0)
 fields_short an_id id is = omega (arith, length-id id)
-fields_short an_extent e is = omega (arith, length-extent e)
+fields_short a_script e is = omega (arith, length-extent e)
+fields_short an_output e is = omega (arith, length-extent e)
 fields_short a_job j is = job_short j is
 fields_short a_carried c is = carried_short c is
 fields_short a_site v is =

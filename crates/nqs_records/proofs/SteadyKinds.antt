@@ -1,7 +1,9 @@
 -- Each kind of record is read the same whatever follows.
 use Rattle.std.proofs.Common.{◌≡◌, ℕ, true, false}
 use Rattle.nqs_records.specs.Tables.{by_code}
-use Rattle.nqs_records.specs.KindFields.{Field, one_byte, eight_bytes, a_name, a_path, maybe, a_host, an_id, an_extent, a_job, a_carried, a_site, an_edit}
+use Rattle.nqs_types.specs.Scripts.{longest_script}
+use Rattle.nqs_records.specs.KindFields.{Field, one_byte, eight_bytes, a_name, a_path, maybe, a_host, an_id, a_script, an_output, a_job, a_carried, a_site}
+use Rattle.nqs_records.specs.KindFields.{an_edit}
 use Rattle.nqs_records.specs.KindFields.{outputs, handovers, with_low, value_at}
 use Rattle.nqs_records.specs.KindTable.{kinds}
 use Rattle.nqs_records.specs.Kinds.{no_kind}
@@ -22,7 +24,8 @@ field_steady a_path = path_steady
 field_steady (maybe f) = opt_steady _ (field_steady f)
 field_steady a_host = host_steady
 field_steady an_id = id_steady
-field_steady an_extent = extent_steady
+field_steady a_script = extent_steady longest_script
+field_steady an_output = extent_steady 32768
 field_steady a_job = job_steady
 field_steady a_carried = carried_steady
 field_steady a_site = both_steady _ _ host_steady site_steady

@@ -4,7 +4,7 @@ use Rattle.nqs_types.specs.declared.ids.HostId.{HostId}
 use Rattle.nqs_records.specs.Reading.{counted, within}
 use Rattle.nqs_records.specs.Fields.{u8_at, name_at}
 use Rattle.nqs_records.specs.Values.{is_site_count, is_at_most}
-use Rattle.nqs_records.specs.Parts.{host_at, seq_at, id_at, extent_at, job_at, carried_at, part_at, hand_at, low_at}
+use Rattle.nqs_records.specs.Parts.{host_at, seq_at, id_at, extent_within, job_at, carried_at, part_at, hand_at, low_at}
 use Rattle.nqs_records.proofs.Steady.{IsSteady, mapped_steady, both_steady, within_steady, counted_steady}
 use Rattle.nqs_records.proofs.SteadyFields.{u8_steady, u16_steady, u32_steady, u64_steady, u8_some, u16_some, u32_some, u64_some, bool_steady, opt_steady}
 use Rattle.nqs_records.proofs.SteadyNames.{name_steady, path_steady}
@@ -21,9 +21,9 @@ pub id_steady : IsSteady id_at
 unfolding id_at
 id_steady = mapped_steady _ _ (both_steady _ _ seq_steady (λ _. host_steady))
 
-pub extent_steady : IsSteady extent_at
-unfolding extent_at
-extent_steady = mapped_steady _ _ (both_steady _ _ u64_steady (λ _. within_steady _ _ u32_some u32_steady))
+pub extent_steady : (limit : ℕ) → IsSteady (extent_within limit)
+unfolding extent_within
+extent_steady limit = mapped_steady _ _ (both_steady _ _ u64_steady (λ _. within_steady _ _ u32_some u32_steady))
 
 pub job_steady : IsSteady job_at
 unfolding job_at
@@ -43,7 +43,7 @@ carried_steady =
 
 part_steady : IsSteady part_at
 unfolding part_at
-part_steady = mapped_steady _ _ (both_steady _ _ path_steady (λ _. extent_steady))
+part_steady = mapped_steady _ _ (both_steady _ _ path_steady (λ _. extent_steady 32768))
 
 hand_steady : IsSteady hand_at
 unfolding hand_at

@@ -13,13 +13,13 @@ use Rattle.nqs_types.specs.declared.change.OutPart.{OutPart}
 use Rattle.nqs_types.specs.declared.edit.Edit.{Edit}
 use Rattle.nqs_codec.specs.Fields.{u8_field, u64_field, short_field}
 use Rattle.nqs_rules.specs.Sane.{is_sane_low}
-use Rattle.nqs_records.specs.Values.{is_at_most, is_site_count, IsU8, IsU64, IsOpt, IsList, IsHost, IsId, IsExtent, IsJob, IsCarried, IsPart, IsHand}
+use Rattle.nqs_records.specs.Values.{is_at_most, is_site_count, IsU8, IsU64, IsOpt, IsList, IsHost, IsId, IsScript, IsOutput, IsJob, IsCarried, IsPart, IsHand}
 use Rattle.nqs_records.specs.EditValues.{IsEdit}
 use Rattle.nqs_records.specs.Spelling.{opt_field, list_field, id_field, extent_field, job_field, carried_field, part_field, hand_field}
 use Rattle.nqs_records.specs.EditSpelling.{edit_field}
 use Rattle.nqs_records.specs.Reading.{Reading, both, within, counted}
 use Rattle.nqs_records.specs.Fields.{u8_at, u64_at, opt_at, name_at, path_at}
-use Rattle.nqs_records.specs.Parts.{host_at, id_at, extent_at, job_at, carried_at, part_at, hand_at, low_at}
+use Rattle.nqs_records.specs.Parts.{host_at, id_at, script_at, output_at, job_at, carried_at, part_at, hand_at, low_at}
 use Rattle.nqs_records.specs.Edits.{edit_at}
 
 -- a field of a change
@@ -38,8 +38,10 @@ pub data Field : Type 0 where
   a_host : Field
   -- a request
   an_id : Field
-  -- an extent of the spool
-  an_extent : Field
+  -- the extent of a script in the spool
+  a_script : Field
+  -- the extent of an output in the spool
+  an_output : Field
   -- a job
   a_job : Field
   -- what goes from host to host with a request
@@ -64,7 +66,8 @@ ValueOf a_path = List ℕ
 ValueOf (maybe f) = Option (ValueOf f)
 ValueOf a_host = HostId
 ValueOf an_id = RequestId
-ValueOf an_extent = Extent
+ValueOf a_script = Extent
+ValueOf an_output = Extent
 ValueOf a_job = Job
 ValueOf a_carried = Carried
 ValueOf a_site = HostId × List (List ℕ)
@@ -82,7 +85,8 @@ IsValue a_path bytes = IsPath bytes
 IsValue (maybe f) v = IsOpt (IsValue f) v
 IsValue a_host h = IsHost h
 IsValue an_id id = IsId id
-IsValue an_extent e = IsExtent e
+IsValue a_script e = IsScript e
+IsValue an_output e = IsOutput e
 IsValue a_job j = IsJob j
 IsValue a_carried c = IsCarried c
 IsValue a_site v = IsHost v.0 × IsList (λ n. IsTrue (is_site_count v.0 n)) IsName v.1
@@ -100,7 +104,8 @@ value_field a_path bytes = short_field bytes
 value_field (maybe f) v = opt_field (value_field f) v
 value_field a_host h = u8_field h.0
 value_field an_id id = id_field id
-value_field an_extent e = extent_field e
+value_field a_script e = extent_field e
+value_field an_output e = extent_field e
 value_field a_job j = job_field j
 value_field a_carried c = carried_field c
 value_field a_site v = u8_field v.0.0 ++ list_field short_field v.1
@@ -118,7 +123,8 @@ value_at a_path = path_at
 value_at (maybe f) = opt_at (value_at f)
 value_at a_host = host_at
 value_at an_id = id_at
-value_at an_extent = extent_at
+value_at a_script = script_at
+value_at an_output = output_at
 value_at a_job = job_at
 value_at a_carried = carried_at
 value_at a_site = both host_at (λ me. counted (within (is_site_count me) u8_at) name_at)

@@ -8,7 +8,8 @@ use Rattle.nqs_types.specs.declared.change.Change.TheVariants.{HandCommitted, Ha
 use Rattle.nqs_types.specs.declared.change.Change.TheVariants.{MovedLocal}
 use Rattle.nqs_types.specs.declared.change.Change.TheVariants.{RefusedLocal, HeldFar, StageGot, StageGone, FileGone}
 use Rattle.nqs_records.specs.Tables.{Values, Row, Entry, shape_of}
-use Rattle.nqs_records.specs.KindFields.{Field, ValueOf, one_byte, eight_bytes, a_name, a_path, maybe, a_host, an_id, an_extent, a_job, a_carried, a_site}
+use Rattle.nqs_records.specs.KindFields.{Field, ValueOf, one_byte, eight_bytes, a_name, a_path, maybe, a_host, an_id, a_script, an_output, a_job, a_carried}
+use Rattle.nqs_records.specs.KindFields.{a_site}
 use Rattle.nqs_records.specs.KindFields.{an_edit, outputs, handovers, with_low}
 
 -- a change of a host
@@ -38,18 +39,18 @@ hand_part =
     ∷ row 12 (a_host ∷ eight_bytes ∷ one_byte ∷ []) (λ v. HandRefused v.0 v.1.0 v.1.1)
     ∷ row 13 (eight_bytes ∷ handovers ∷ []) (λ v. HandsSilent v.0 v.1)
     ∷ row 14 (a_host ∷ eight_bytes ∷ []) (λ v. HandDone v.0 v.1)
-    ∷ row 15 (a_host ∷ eight_bytes ∷ a_name ∷ a_carried ∷ an_extent ∷ []) (λ v. OldPromised v.0 v.1.0 v.1.1.0 v.1.1.1.0 v.1.1.1.1)
+    ∷ row 15 (a_host ∷ eight_bytes ∷ a_name ∷ a_carried ∷ a_script ∷ []) (λ v. OldPromised v.0 v.1.0 v.1.1.0 v.1.1.1.0 v.1.1.1.1)
     ∷ row 16 (a_host ∷ eight_bytes ∷ []) (λ v. Accepted v.0 v.1)
     ∷ row 17 (a_host ∷ eight_bytes ∷ []) (λ v. Dropped v.0 v.1)
-    ∷ row 21 (a_host ∷ eight_bytes ∷ a_path ∷ an_extent ∷ []) (λ v. StageGot v.0 v.1.0 v.1.1.0 v.1.1.1)
+    ∷ row 21 (a_host ∷ eight_bytes ∷ a_path ∷ an_output ∷ []) (λ v. StageGot v.0 v.1.0 v.1.1.0 v.1.1.1)
     ∷ row 22 (a_host ∷ eight_bytes ∷ []) (λ v. StageGone v.0 v.1)
-    ∷ row 24 (a_host ∷ with_low ∷ a_name ∷ a_carried ∷ an_extent ∷ []) (λ v. Promised v.0 v.1.0.0 v.1.0.1 v.1.1.0 v.1.1.1.0 v.1.1.1.1)
+    ∷ row 24 (a_host ∷ with_low ∷ a_name ∷ a_carried ∷ a_script ∷ []) (λ v. Promised v.0 v.1.0.0 v.1.0.1 v.1.1.0 v.1.1.1.0 v.1.1.1.1)
     ∷ []
 
 -- changes of requests
 abbrev pub request_part : List (Row ValueOf HostChange)
 request_part =
-    row 2 (a_name ∷ a_job ∷ an_extent ∷ []) (λ v. Submitted v.0 v.1.0 v.1.1)
+    row 2 (a_name ∷ a_job ∷ a_script ∷ []) (λ v. Submitted v.0 v.1.0 v.1.1)
     ∷ row 3 (an_id ∷ []) (λ id. Deleted id)
     ∷ row 4 (an_id ∷ []) (λ id. Doomed id)
     ∷ row 5 (an_id ∷ maybe a_name ∷ []) (λ v. Started v.0 v.1)

@@ -1,5 +1,6 @@
 -- Readings of what records are made of.
 use Rattle.std.specs.Prelude.{ℕ, Bool, ◌==◌, is_some, List, Option, Ok}
+use Rattle.nqs_types.specs.Scripts.{longest_script}
 use Rattle.nqs_types.specs.declared.ids.HostId.{HostId}
 use Rattle.nqs_types.specs.declared.ids.RequestId.{RequestId}
 use Rattle.nqs_types.specs.declared.ids.PeerNumber.{PeerNumber}
@@ -55,9 +56,17 @@ dest_at = mapped (λ v. record { queue = v.0; host = v.1 }) (both name_at (λ _.
 unfoldable pub named_at : Reading Named
 named_at = mapped (λ v. record { seq = v.0; host = v.1 }) (both seq_at (λ _. name_at))
 
--- an extent of the spool: its place, and its length, at most 32,768
-unfoldable pub extent_at : Reading Extent
-extent_at = mapped (λ v. record { place = v.0; length = v.1 }) (both u64_at (λ _. within (is_at_most 32768) u32_at))
+-- an extent of the spool: its place, and its length, up to a limit
+unfoldable pub extent_within : ℕ → Reading Extent
+extent_within limit = mapped (λ v. record { place = v.0; length = v.1 }) (both u64_at (λ _. within (is_at_most limit) u32_at))
+
+-- that of a script
+abbrev pub script_at : Reading Extent
+script_at = extent_within longest_script
+
+-- that of an output
+abbrev pub output_at : Reading Extent
+output_at = extent_within 32768
 
 -- the values of a job's fields, in order
 abbrev pub JobFields : Type 0
@@ -95,7 +104,7 @@ carried_at = mapped (λ v. record { id = v.0; job = v.1.0; starts = v.1.1.0; los
 
 -- an output of a job: its path, and where its bytes are
 unfoldable pub part_at : Reading (OutPart Extent)
-part_at = mapped (λ v. record { path = v.0; bytes = v.1 }) (both path_at (λ _. extent_at))
+part_at = mapped (λ v. record { path = v.0; bytes = v.1 }) (both path_at (λ _. output_at))
 
 -- a handover, by its peer and its number
 unfoldable pub hand_at : Reading PeerNumber

@@ -4,6 +4,7 @@ use Rattle.std.specs.List.{AllByRecursion}
 use Rattle.nqs_base.specs.Name.{IsName}
 use Rattle.nqs_base.specs.Path.{IsPath}
 use Rattle.nqs_rules.specs.Tests.{last_seq}
+use Rattle.nqs_types.specs.Scripts.{longest_script}
 use Rattle.nqs_types.specs.declared.ids.HostId.{HostId}
 use Rattle.nqs_types.specs.declared.ids.RequestId.{RequestId}
 use Rattle.nqs_types.specs.declared.ids.PeerNumber.{PeerNumber}
@@ -71,9 +72,17 @@ IsHost host = IsTrue (is_host host.0)
 abbrev pub IsId : RequestId → Type 0
 IsId id = IsTrue (is_seq id.seq) × IsHost id.host
 
--- a range of a spool that one script fits in
-abbrev pub IsExtent : Extent → Type 0
-IsExtent e = IsU64 e.place × IsTrue (is_at_most 32768 e.length)
+-- a place in a spool
+abbrev pub IsPlaced : Extent → Type 0
+IsPlaced e = IsU64 e.place
+
+-- the range of a spool that a script has
+abbrev pub IsScript : Extent → Type 0
+IsScript e = IsU64 e.place × IsTrue (is_at_most longest_script e.length)
+
+-- the range of a spool that an output has
+abbrev pub IsOutput : Extent → Type 0
+IsOutput e = IsU64 e.place × IsTrue (is_at_most 32768 e.length)
 
 -- a job whose fields are within their limits
 abbrev pub IsJob : Job → Type 0
@@ -88,7 +97,7 @@ IsCarried c = IsId c.id × IsJob c.job × IsTrue (is_at_most 65534 c.starts) × 
 
 -- an output of a job whose path is one
 abbrev pub IsPart : OutPart Extent → Type 0
-IsPart p = IsPath p.path × IsExtent p.bytes
+IsPart p = IsPath p.path × IsOutput p.bytes
 
 -- a handover: its peer and its number
 abbrev pub IsHand : PeerNumber → Type 0

@@ -12,7 +12,7 @@ use crate::field::{read_name, read_u8, read_u64};
 use crate::host_kinds::read_host_kind;
 use crate::job::read_carried;
 use crate::lists::read_hands;
-use crate::part::{read_extent, read_host, read_id, read_low, read_path};
+use crate::part::{read_host, read_id, read_low, read_output, read_path, read_script};
 use nqs_types::{Change, HostId};
 use std::alloc::Global;
 
@@ -67,7 +67,7 @@ fn read_old_promised(alloc: Global, bytes: &[u8], place: u64) -> Result<(Change,
     let (number, place) = read_u64(bytes, place)?;
     let (queue, place) = read_name(bytes, place)?;
     let (carried, place) = read_carried(alloc, bytes, place)?;
-    let (script, place) = read_extent(bytes, place)?;
+    let (script, place) = read_script(bytes, place)?;
     let change = Change::OldPromised {
         peer,
         number,
@@ -95,7 +95,7 @@ fn read_promised(alloc: Global, bytes: &[u8], place: u64) -> Result<(Change, u64
     let ((number, low), place) = read_with_low(bytes, place)?;
     let (queue, place) = read_name(bytes, place)?;
     let (carried, place) = read_carried(alloc, bytes, place)?;
-    let (script, place) = read_extent(bytes, place)?;
+    let (script, place) = read_script(bytes, place)?;
     let change = Change::Promised {
         peer,
         number,
@@ -114,7 +114,7 @@ fn read_stage_got(alloc: Global, bytes: &[u8], place: u64) -> Result<(Change, u6
     let (peer, place) = read_host(bytes, place)?;
     let (number, place) = read_u64(bytes, place)?;
     let (path, place) = read_path(alloc, bytes, place)?;
-    let (extent, place) = read_extent(bytes, place)?;
+    let (extent, place) = read_output(bytes, place)?;
     let change = Change::StageGot {
         peer,
         number,

@@ -59,7 +59,9 @@ pub use fault::RecordFault;
 pub use field::{read_bool, read_name, read_u8, read_u16, read_u32, read_u64};
 pub use job::{read_carried, read_job, read_u8_at_most};
 pub use lists::{InRecord, Read, read_alone, repeat, repeat_small};
-pub use part::{read_extent, read_host, read_id, read_low, read_opt_name, read_opt_u64, read_path};
+pub use part::{
+    read_host, read_id, read_low, read_opt_name, read_opt_u64, read_output, read_path, read_script,
+};
 pub use put_lists::{Put, put_each};
 pub use put_parts::{put_carried, put_extent, put_id, put_job, put_opt_name, put_opt_u64};
 pub use read::{first_faults, read_change, reads_the_spelling, what_may_stand_is_sane};

@@ -5,13 +5,13 @@ ghost use Rattle.nqs_base.specs.Extents.{extent_bytes};
 ghost use Rattle.nqs_codec.specs.Takes.{IsExtentAt};
 ghost use Rattle.nqs_records.specs.Reading.{Answers};
 ghost use Rattle.nqs_records.specs.Fields.{u64_at, name_at, path_at, opt_at};
-ghost use Rattle.nqs_records.specs.Parts.{host_at, seq_at, id_at, extent_at, part_at, hand_at, low_at};
+ghost use Rattle.nqs_records.specs.Parts.{host_at, seq_at, id_at, extent_within, script_at, output_at, part_at, hand_at, low_at};
 
 use crate::fault::RecordFault;
 use crate::field::{as_fault, read_bool, read_name, read_u8, read_u32, read_u64};
 use nqs_base::{Bytes, Extent, Name};
 use nqs_codec::take_path;
-use nqs_types::{HostId, OutPart, PeerNumber, RequestId};
+use nqs_types::{HostId, LONGEST_SCRIPT, OutPart, PeerNumber, RequestId};
 use std::alloc::Global;
 
 /// The number of eight bytes at the place, or nothing.
@@ -75,14 +75,13 @@ pub(crate) fn read_seq(bytes: &[u8], place: u64) -> Result<(u32, u64), RecordFau
     }
 }
 
-/// The range of a spool at the place, of one script or output at most.
-#[tactic(auto, unfolding(crate::specs::Parts::extent_at))]
-pub fn read_extent(bytes: &[u8], place: u64) -> Result<(Extent, u64), RecordFault>
-    ensures { result ≡ extent_at bytes.now place }
+#[tactic(auto, unfolding(crate::specs::Parts::extent_within))]
+fn read_within(bytes: &[u8], place: u64, limit: u32) -> Result<(Extent, u64), RecordFault>
+    ensures { result ≡ extent_within limit bytes.now place }
 {
     let (start, next) = read_u64(bytes, place)?;
     let (length, end) = read_u32(bytes, next)?;
-    if length <= 32_768 {
+    if length <= limit {
         Ok((
             Extent {
                 place: start,
@@ -93,6 +92,20 @@ pub fn read_extent(bytes: &[u8], place: u64) -> Result<(Extent, u64), RecordFaul
     } else {
         Err(RecordFault::BadField(next))
     }
+}
+
+/// The range of a spool at the place, of one script.
+pub fn read_script(bytes: &[u8], place: u64) -> Result<(Extent, u64), RecordFault>
+    ensures { result ≡ script_at bytes.now place }
+{
+    read_within(bytes, place, LONGEST_SCRIPT)
+}
+
+/// The range of a spool at the place, of one output.
+pub fn read_output(bytes: &[u8], place: u64) -> Result<(Extent, u64), RecordFault>
+    ensures { result ≡ output_at bytes.now place }
+{
+    read_within(bytes, place, 32_768)
 }
 
 #[tactic(auto, unfolding(crate::specs::Parts::hand_at))]
@@ -149,7 +162,7 @@ pub(crate) fn read_part(
     ensures { Answers (part_at bytes.now place) result }
 {
     let (path, next) = read_path(alloc, bytes, place)?;
-    let (extent, end) = read_extent(bytes, next)?;
+    let (extent, end) = read_output(bytes, next)?;
     Ok((
         OutPart {
             path,

@@ -12,7 +12,7 @@ use crate::field::{read_name, read_u8};
 use crate::hand_kinds::read_hand_kind;
 use crate::job::read_job;
 use crate::lists::read_parts;
-use crate::part::{read_extent, read_id, read_opt_name};
+use crate::part::{read_id, read_opt_name, read_script};
 use nqs_types::{Change, RequestId};
 use std::alloc::Global;
 
@@ -22,7 +22,7 @@ fn read_submitted(alloc: Global, bytes: &[u8], place: u64) -> Result<(Change, u6
 {
     let (queue, place) = read_name(bytes, place)?;
     let (job, place) = read_job(alloc, bytes, place)?;
-    let (script, place) = read_extent(bytes, place)?;
+    let (script, place) = read_script(bytes, place)?;
     let change = Change::Submitted { queue, job, script };
     Ok((change, place))
 }

@@ -40,6 +40,7 @@ pub mod AppliedOrder
 pub mod HandoversOrder
 pub mod ChangesOrder
 pub mod OutputsKept
+pub mod Sides
 pub mod Consistent
 pub mod ConsistentOrder
 pub mod ChangesConsistent

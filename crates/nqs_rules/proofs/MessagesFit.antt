@@ -33,7 +33,7 @@ use Rattle.nqs_rules.specs.Causes.{Cause, cause, first_refusal}
 use Rattle.nqs_rules.specs.Find.{peer_number, has_queue, find_queue, has_row, find_row, find_hand, has_promise, has_stage, find_peer}
 use Rattle.nqs_rules.specs.Rows.{causes_of, arrivals_used}
 use Rattle.nqs_rules.specs.Routing.{is_closed}
-use Rattle.nqs_rules.specs.Sane.{is_of_site, is_short_script, is_sane_low, is_sane_carried, is_sane_job, has_path, is_sane_body, is_sane_event}
+use Rattle.nqs_rules.specs.Sane.{is_of_site, is_short_script, is_short_file, is_sane_low, is_sane_carried, is_sane_job, has_path, is_sane_body, is_sane_event}
 use Rattle.nqs_rules.specs.Fits.{is_offered_hand, is_committed_hand, is_open_number, is_new_stage, is_site_host, is_unknown, offer_full}
 use Rattle.nqs_rules.specs.Stepped.{quiet, says, makes, ready}
 use Rattle.nqs_rules.specs.Handover.{closes, was_given, send_abort, send_done, send_ready, named_of, is_not_given_here, offer_entry_causes, offer_causes}
@@ -285,7 +285,7 @@ module _ {E : Type 0} (s : State E) (h : IsInOrder s) where
   message_fits peer (body.Inquire n) of_site sane = ready_fits peer n
   message_fits peer (body.Abort n) of_site sane = abort_fits peer n
   message_fits peer (body.Stage n path bytes) of_site sane = stage_fits peer n path bytes of_site
-      (each (nat_le 1 n) (is_path path ∷ is_short_script bytes ∷ []) sane).1.0
+      (each (nat_le 1 n) (is_path path ∷ is_short_file bytes ∷ []) sane).1.0
   message_fits peer (body.Staged n) of_site sane = staged_fits peer n
   message_fits peer b of_site sane = tt
 

@@ -4,6 +4,7 @@ use Rattle.std.specs.Prelude.{None, Some}
 use Rattle.std.specs.List.{list_any, list_all}
 use Rattle.nqs_base.specs.Same.{name_eq}
 use Rattle.nqs_types.specs.Ids.{id_eq, peer_number_eq, hand_key, promise_key, stage_key}
+use Rattle.nqs_types.specs.Scripts.{longest_script}
 use Rattle.nqs_state.specs.State.{State}
 use Rattle.nqs_rules.specs.Tests.{passes, is_running, is_routing, is_queued, is_unheld, is_offered, same_host, last_u64, last_seq}
 use Rattle.nqs_rules.specs.Find.{has_queue, has_device, find_row, find_peer, held_count}
@@ -198,10 +199,10 @@ module _ {E : Type 0} where
     pub files : list_all (is_file_right s) s.files ≡ true
 
 module _ {E : Type 0} (size : E → ℕ) where
-  -- each stored script and output is at most 32,768 bytes long
+  -- a stored script has at most 1,048,576 bytes, a stored output at most 32,768
   abbrev pub are_parts_short : State E → Bool
   are_parts_short s =
-      list_all (λ r. nat_le (size r.script) 32768) s.rows && list_all (λ p. nat_le (size p.row.script) 32768) s.promises
+      list_all (λ r. nat_le (size r.script) longest_script) s.rows && list_all (λ p. nat_le (size p.row.script) longest_script) s.promises
       && list_all (λ t. nat_le (size t.bytes) 32768) s.stages && list_all (λ f. nat_le (size f.bytes) 32768) s.files
 
   -- what a state in order is, where size gives the length of a stored part

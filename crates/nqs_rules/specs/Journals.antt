@@ -1,6 +1,6 @@
 -- A host's two journals: which of them is active, when a checkpoint turns over to the other, and
 -- what a stop leaves of it.
-use Rattle.std.specs.Prelude.{ℕ, ◌%◌, ◌==◌, nat_le, Bool, true, false, not, if◌then◌else◌, List, [], ◌∷◌}
+use Rattle.std.specs.Prelude.{ℕ, ◌%◌, ◌==◌, nat_le, Bool, true, false, not, ◌||◌, if◌then◌else◌, List, [], ◌∷◌}
 use Rattle.nqs_types.specs.declared.world.Which.{Which}
 use Rattle.nqs_types.specs.declared.world.Which.TheVariants.{First, Second}
 pub use Rattle.nqs_base.specs.Tears.{torn_byte}
@@ -39,9 +39,9 @@ behind_byte (byte ∷ bytes) = bytes
 abbrev pub turned : List ℕ → List ℕ
 turned root = byte_of (not (is_second root)) ∷ behind_byte root
 
--- with so many records in the active journal a change begins with a checkpoint
-abbrev pub is_due : ℕ → Bool
-is_due records = nat_le 4096 records
+-- a change begins with a checkpoint where the active journal's text is old, or has so many records
+abbrev pub is_due : Bool → ℕ → Bool
+is_due is_old records = is_old || nat_le 4096 records
 
 -- what a tear leaves of a root whose new byte isn't synced
 abbrev pub torn_root : Tear → List ℕ → List ℕ

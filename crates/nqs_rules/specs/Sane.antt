@@ -6,6 +6,7 @@ use Rattle.nqs_rules.specs.Tests.{last_seq}
 use Rattle.nqs_rules.specs.Conf.{is_conf_within}
 use Rattle.nqs_rules.specs.Limits.{is_limits_within}
 use Rattle.nqs_rules.specs.Rows.{is_rows_within}
+use Rattle.nqs_types.specs.Scripts.{longest_script}
 use Rattle.nqs_types.specs.declared.ids.HostId.{HostId}
 use Rattle.nqs_types.specs.declared.ids.RequestId.{RequestId}
 use Rattle.nqs_types.specs.declared.request.Job.{Job}
@@ -89,13 +90,27 @@ is_sane_folder (Some folder) = is_sane_name folder && not (is_parent folder)
 abbrev pub is_asked : Submission → Bool
 is_asked sub = is_asked_job sub.job && is_sane_folder sub.folder
 
--- a script has at most 32,768 bytes
+-- a script has at most 1,048,576 bytes
 abbrev pub is_short_script : List ℕ → Bool
-is_short_script bytes = nat_le (length bytes) 32768
+is_short_script bytes = nat_le (length bytes) longest_script
 
--- an output has at most 16,384 bytes
+-- an output that is kept, as a stage or a file, has at most 32,768 bytes
+abbrev pub is_short_file : List ℕ → Bool
+is_short_file bytes = nat_le (length bytes) 32768
+
+-- an output, as a job leaves it, has at most 16,384 bytes
 abbrev pub is_short_output : List ℕ → Bool
 is_short_output bytes = nat_le (length bytes) 16384
+
+-- the parts that a change stores are short, by the length of each: a script, or outputs that are
+-- kept
+abbrev pub is_short_change : {E : Type 0} → (E → ℕ) → Change E → Bool
+is_short_change size (Submitted _ _ script) = nat_le (size script) longest_script
+is_short_change size (Ended _ parts) = list_all (λ part. nat_le (size part.bytes) 32768) parts
+is_short_change size (OldPromised _ _ _ _ script) = nat_le (size script) longest_script
+is_short_change size (Promised _ _ _ _ _ script) = nat_le (size script) longest_script
+is_short_change size (StageGot _ _ _ bytes) = nat_le (size bytes) 32768
+is_short_change size _ = true
 
 -- what a command brings is within its limits
 abbrev pub is_sane_command : Command → Bool
@@ -116,7 +131,7 @@ abbrev pub is_sane_body : ℕ → Body → Bool
 is_sane_body hosts (body.Offer n low _ c script) =
     nat_le 1 n && is_sane_low low n && is_sane_carried c && is_of_site hosts c.id.host && is_short_script script
 is_sane_body hosts (body.Refused n refusal) = nat_le 1 n && is_offer_refusal refusal
-is_sane_body hosts (body.Stage n path bytes) = nat_le 1 n && is_path path && is_short_script bytes
+is_sane_body hosts (body.Stage n path bytes) = nat_le 1 n && is_path path && is_short_file bytes
 is_sane_body hosts _ = true
 
 -- a message is from a host of the site, and what it brings is within its limits

@@ -132,6 +132,7 @@ kind_name kind.Ask = codes "ASK"
 kind_name kind.Answer = codes "ANSWER"
 kind_name kind.Ended = codes "ENDED"
 kind_name kind.EndedAck = codes "ENDEDACK"
+kind_name kind.Piece = codes "PIECE"
 
 -- the name of a host
 abbrev pub host_text : List Text → HostId → Text

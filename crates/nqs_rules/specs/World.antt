@@ -62,7 +62,7 @@ Calls = OfDisks ℕ
 -- A host: whether it is up, its state, the states that its disks told before since they were new or
 -- last became the image of a stop, the last of them first, what its next stop leaves of a write,
 -- its fuses, how many calls its disks have made, what its disk `root` holds, which names the active
--- journal, and how many records that journal has.
+-- journal, how many records that journal has, and whether its text is of the version before.
 pub record Host : Type 0 where
   pub up : Bool
   pub state : Plain
@@ -72,6 +72,7 @@ pub record Host : Type 0 where
   pub calls : Calls
   pub root : Bytes
   pub records : ℕ
+  pub is_old : Bool
 
 -- the packets are all that were ever sent, the first of them with the number 1
 pub record World : Type 0 where
@@ -132,6 +133,7 @@ new_host site place = let s = formatted (record { 0 = place }) site in record {
   calls = new_calls;
   root = [];
   records = 2;
+  is_old = false;
 }
 
 -- new hosts of the site from a place on
@@ -224,13 +226,13 @@ abbrev pub calling : Which → ℕ → Host → Host
 calling disk n h = record h { fuses = burnt_at disk n h.fuses; calls = called disk n h.calls }
 
 -- A host that made a checkpoint: two calls of the other journal's disk and two of the root. The
--- other journal is active, without a record.
+-- other journal is active, without a record, and isn't old.
 abbrev pub turns_over : Host → Host
-turns_over h = record (calling Root 2 (calling (resting h.root) 2 h)) { root = turned h.root; records = 0 }
+turns_over h = record (calling Root 2 (calling (resting h.root) 2 h)) { root = turned h.root; records = 0; is_old = false }
 
 -- a host that made a checkpoint where one was due, and goes on to the calls of a change
 abbrev pub ready : Host → Host
-ready h = if is_due h.records then turns_over h else h
+ready h = if is_due h.is_old h.records then turns_over h else h
 
 -- a fuse falls among a checkpoint's calls of the other journal
 abbrev pub falls_at_journal : Host → Bool
@@ -250,16 +252,20 @@ fate_of_record puts h =
 
 -- how a change ends: the calls of a checkpoint come before its own, where one is due
 abbrev pub fate : List Bytes → Host → Fate
-fate puts h = if is_due h.records && (falls_at_journal h || falls_at_root h) then StoppedBefore else fate_of_record puts (ready h)
+fate puts h = if is_due h.is_old h.records && (falls_at_journal h || falls_at_root h) then StoppedBefore else fate_of_record puts (ready h)
 
 -- A host whose root was torn in a checkpoint. Where it names the other journal, that one has no
--- record.
+-- record, and isn't old.
 abbrev pub torn_over : Host → Host
-torn_over h = record h { root = torn_root h.tear h.root; records = if names_same h.root (torn_root h.tear h.root) then h.records else 0 }
+torn_over h = record h {
+  root = torn_root h.tear h.root;
+  records = if names_same h.root (torn_root h.tear h.root) then h.records else 0;
+  is_old = if names_same h.root (torn_root h.tear h.root) then h.is_old else false;
+}
 
 -- what a stop before its change was kept leaves of a host's root and records
 abbrev pub cut_off : Host → Host
-cut_off h = if not (is_due h.records) || falls_at_journal h then h else (if falls_at_root h then torn_over h else turns_over h)
+cut_off h = if not (is_due h.is_old h.records) || falls_at_journal h then h else (if falls_at_root h then torn_over h else turns_over h)
 
 -- a host with one record more
 abbrev pub recorded : Host → Host
@@ -276,6 +282,7 @@ stopped s h = record {
   calls = no_calls;
   root = h.root;
   records = h.records;
+  is_old = h.is_old;
 }
 
 -- a host that made the calls of a change, of which the spool's two for each list of bytes and the
@@ -304,6 +311,7 @@ body_kind (body.Ask _ _ _ _ _ _) = kind.Ask
 body_kind (body.Answer _ _ _) = kind.Answer
 body_kind (body.Ended _ _ _ _ _ _) = kind.Ended
 body_kind (body.EndedAck _ _) = kind.EndedAck
+body_kind (body.Piece _ _ _ _ _ _) = kind.Piece
 
 -- the number of a datagram among hosts, and 0 for one of a client
 abbrev pub body_number : Body → ℕ

@@ -139,6 +139,7 @@ fn kind_name(kind: BodyKind) -> &'static [u8]
         BodyKind::Answer => b"ANSWER",
         BodyKind::Ended => b"ENDED",
         BodyKind::EndedAck => b"ENDEDACK",
+        BodyKind::Piece => b"PIECE",
     }
 }
 

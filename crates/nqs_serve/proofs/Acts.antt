@@ -12,12 +12,15 @@ use Rattle.nqs_rules.specs.Starts.{after_starts, after_step}
 use Rattle.nqs_rules.specs.Stepped.{Stepped}
 use Rattle.nqs_outside.specs.Asked.{Arrival, inbound}
 use Rattle.nqs_outside.proofs.Told.{extends_same}
-use Rattle.nqs_serve.specs.Events.{Here, event_in, stops_by}
+use Rattle.nqs_serve.specs.Events.{Here, stops_by}
 use Rattle.nqs_serve.specs.Steps.{after_event, outputs, calls}
 use Rattle.nqs_serve.specs.Tellings.{Telling, Adds, AddsNone, Passes}
 use Rattle.nqs_serve.proofs.Tellings.{adds_none, adds_then}
 use Rattle.nqs_serve.specs.Runs.{Act, received, took, Turn, turn, idle, Outcome, outputs_in, brought_back, event_back, come_back, next, after, IsRun}
 use Rattle.nqs_serve.specs.Runs.{arrivals_of, moments_of, outcomes_of, arrivals, moments, sends, traffic_by, traffic, asked, asked_by, prints, prints_by}
+use Rattle.nqs_pieces.specs.declared.gather.Gathered.{Gathered}
+use Rattle.nqs_serve.specs.Gathers.{heard}
+use Rattle.nqs_serve.specs.Runs.{gathered_by, AreHeard, gathered, events_in}
 use Rattle.nqs_serve.specs.Runs.{filings, filings_by, Begun, none_begun, begun, carried, Grew, Ran, next_calls, act_calls, run_calls}
 use Rattle.nqs_serve.specs.Ends.{stop_of, stops}
 use Rattle.nqs_serve.specs.declared.comeback.Comeback.{Comeback}
@@ -55,7 +58,7 @@ module _ (here : Here) where
   pub calls_lead : (acts : List Act) (s : Plain) (waits : List Event) → IsRun here (turn s waits) acts
       → after_starts (run_calls here (turn s waits) acts) s ≡ (after here (turn s waits) acts).state
   calls_lead [] s waits run = refl
-  calls_lead (received a ∷ acts) s waits run = calls_lead acts s (waits ++ option_to_list (event_in here a)) run.1
+  calls_lead (received a e ∷ acts) s waits run = calls_lead acts s (waits ++ option_to_list e) run.1
   calls_lead (took m os ∷ acts) s [] run = absurd run.0
   calls_lead (took m os ∷ acts) s (e ∷ es) run =
       starts_append (calls m e s) (run_calls here (turn (after_event m e s) (es ++ come_back os)) acts) s
@@ -64,7 +67,7 @@ module _ (here : Here) where
   -- without a receive there is no stop
   pub stops_none : (t : Turn) (xs : List Act) → arrivals xs ≡ [] → stops here t xs ≡ []
   stops_none t [] none = refl
-  stops_none t (received a ∷ xs) none = cc
+  stops_none t (received a e ∷ xs) none = cc
   stops_none t (took m os ∷ xs) none = stops_none (next here t (took m os)) xs none
 
 pub arrivals_append : (xs ys : List Act) → arrivals (xs ++ ys) ≡ arrivals xs ++ arrivals ys
@@ -121,10 +124,9 @@ module _ (here : Here) where
   stops_then xs ys t u leads = stops_append here t xs ys ∙ ap (λ w. stops here t xs ++ stops here w ys) leads
 
 -- a receive when nothing waits
-pub ran_received : (here : Here) (s : Plain) (a : Arrival) (e : Option Event) (was now : Telling) → e ≡ event_in here a
-    → Grew here (received a ∷ []) none_begun was now
-    → Ran here (received a ∷ []) (idle s) (turn s (option_to_list e)) none_begun was now
-ran_received here s a e was now is grew = record { run = (refl, tt); leads = ap (λ (o : Option Event). turn s (option_to_list o)) (sym is); grew = grew }
+pub ran_received : (here : Here) (s : Plain) (a : Arrival) (e : Option Event) (was now : Telling) → Grew here (received a e ∷ []) none_begun was now
+    → Ran here (received a e ∷ []) (idle s) (turn s (option_to_list e)) none_begun was now
+ran_received here s a e was now grew = record { run = (refl, tt); leads = refl; grew = grew }
 
 -- the next event was taken
 pub ran_took : (here : Here) (s : Plain) (e : Event) (es : List Event) (m : ℕ) (os : List Outcome) (was now : Telling) → outputs_in os ≡ outputs m e s
@@ -181,35 +183,35 @@ cut_back here acts start u e x queue rest m os a b c split is ran grew =
     (ran_cut here (turn u (e ∷ map event_back rest)) (begun m os) b c grew)
 
 -- what is done at a quiet receive asks nothing
-pub tended_grew : (here : Here) (arrival : Arrival) (a b c : Telling) → Passes a b (inbound arrival ∷ []) → AddsNone b c
-    → Grew here (received arrival ∷ []) none_begun a c
-tended_grew here arrival a b c came tended = adds_then a b c came tended
+pub tended_grew : (here : Here) (arrival : Arrival) (e : Option Event) (a b c : Telling) → Passes a b (inbound arrival ∷ []) → AddsNone b c
+    → Grew here (received arrival e ∷ []) none_begun a c
+tended_grew here arrival e a b c came tended = adds_then a b c came tended
 
 -- a receive, its event, and those that come back of it
 pub ran_turn : (here : Here) (arrival : Arrival) (m : ℕ) (os : List Outcome) (acts : List Act) (s : Plain) (e : Event) (old back : List Comeback) (v : Turn)
     (more : Begun) (t0 t1 t2 t3 : Telling)
-    → Some e ≡ event_in here arrival → old ≡ [] → back ≡ old ++ brought_back os → outputs_in os ≡ outputs m e s
-    → Grew here (received arrival ∷ []) none_begun t0 t1 → Grew here (took m os ∷ []) none_begun t1 t2
+    → old ≡ [] → back ≡ old ++ brought_back os → outputs_in os ≡ outputs m e s
+    → Grew here (received arrival (Some e) ∷ []) none_begun t0 t1 → Grew here (took m os ∷ []) none_begun t1 t2
     → Ran here acts (turn (after_event m e s) (map event_back back)) v more t2 t3
-    → Ran here (received arrival ∷ took m os ∷ acts) (idle s) v more t0 t3
-ran_turn here arrival m os acts s e old back v more t0 t1 t2 t3 some empty grown same came took_it rest =
+    → Ran here (received arrival (Some e) ∷ took m os ∷ acts) (idle s) v more t0 t3
+ran_turn here arrival m os acts s e old back v more t0 t1 t2 t3 empty grown same came took_it rest =
     let back_is : back ≡ brought_back os = grown ∙ ap (λ (l : List Comeback). l ++ brought_back os) empty in
     let third : Ran here acts (turn (after_event m e s) (come_back os)) v more t2 t3 =
     subst (λ (q : List Comeback). Ran here acts (turn (after_event m e s) (map event_back q)) v more t2 t3) back_is rest in
-    ran_then here (received arrival ∷ took m os ∷ []) acts (idle s) _ v more t0 t2 t3
-    (ran_then here (received arrival ∷ []) (took m os ∷ []) (idle s) (turn s (e ∷ [])) _ none_begun t0 t1 t2
-    (ran_received here s arrival (Some e) t0 t1 some came)
+    ran_then here (received arrival (Some e) ∷ took m os ∷ []) acts (idle s) _ v more t0 t2 t3
+    (ran_then here (received arrival (Some e) ∷ []) (took m os ∷ []) (idle s) (turn s (e ∷ [])) _ none_begun t0 t1 t2
+    (ran_received here s arrival (Some e) t0 t1 came)
     (ran_took here s e [] m os t1 t2 same took_it))
     third
 
 -- what the calls of a turn do
 pub turn_calls : (here : Here) (arrival : Arrival) (m : ℕ) (os : List Outcome) (acts : List Act) (s : Plain) (e : Event) (old back : List Comeback)
-    → Some e ≡ event_in here arrival → old ≡ [] → back ≡ old ++ brought_back os
-    → run_calls here (idle s) (received arrival ∷ took m os ∷ acts) ≡ calls m e s ++ run_calls here (turn (after_event m e s) (map event_back back)) acts
-turn_calls here arrival m os acts s e old back some empty grown =
+    → old ≡ [] → back ≡ old ++ brought_back os
+    → run_calls here (idle s) (received arrival (Some e) ∷ took m os ∷ acts)
+    ≡ calls m e s ++ run_calls here (turn (after_event m e s) (map event_back back)) acts
+turn_calls here arrival m os acts s e old back empty grown =
     let back_is : back ≡ brought_back os = grown ∙ ap (λ (l : List Comeback). l ++ brought_back os) empty in
-    ap (λ (o : Option Event). run_calls here (turn s (option_to_list o)) (took m os ∷ acts)) (sym some)
-    ∙ ap (λ (q : List Comeback). calls m e s ++ run_calls here (turn (after_event m e s) (map event_back q)) acts) (sym back_is)
+    ap (λ (q : List Comeback). calls m e s ++ run_calls here (turn (after_event m e s) (map event_back q)) acts) (sym back_is)
 
 -- and of one event that came back
 pub back_calls : (here : Here) (acts : List Act) (start : Turn) (u : Plain) (e : Event) (x : Comeback) (queue rest : List Comeback) (m : ℕ) (os : List Outcome)
@@ -222,12 +224,55 @@ back_calls here acts start u e x queue rest m os split is leads =
     ∙ ap (λ v. run_calls here start acts ++ calls m v u) (sym is)
 
 -- in a turn there is one receive
-pub turn_stops : (here : Here) (s : Plain) (arrival : Arrival) (m : ℕ) (os : List Outcome) (acts : List Act) → arrivals acts ≡ []
-    → stops here (idle s) (received arrival ∷ took m os ∷ acts) ≡ stops_by (event_in here arrival) s ∷ []
-turn_stops here s arrival m os acts none = ap (λ (l : List Bool). stops_by (event_in here arrival) s ∷ l)
-    (stops_none here (next here (next here (idle s) (received arrival)) (took m os)) acts none)
+pub turn_stops : (here : Here) (s : Plain) (arrival : Arrival) (e : Option Event) (m : ℕ) (os : List Outcome) (acts : List Act) → arrivals acts ≡ []
+    → stops here (idle s) (received arrival e ∷ took m os ∷ acts) ≡ stops_by e s ∷ []
+turn_stops here s arrival e m os acts none =
+    ap (λ (l : List Bool). stops_by e s ∷ l) (stops_none here (next here (next here (idle s) (received arrival e)) (took m os)) acts none)
 
 -- nothing waits
 pub ran_empty : (here : Here) (acts : List Act) (start : Turn) (u : Plain) (queue : List Comeback) (a b : Telling) → queue ≡ []
     → Ran here acts start (turn u (map event_back queue)) none_begun a b → Ran here acts start (idle u) none_begun a b
 ran_empty here acts start u queue a b empty ran = subst (λ (q : List Comeback). Ran here acts start (turn u (map event_back q)) none_begun a b) empty ran
+
+-- what acts heard, one after the other
+
+-- the event that a receive brought
+abbrev pub events_of : Act → List Event
+events_of (received a e) = option_to_list e
+events_of (took m os) = []
+
+module _ (here : Here) where
+  pub heard_then : (g : List Gathered) (xs ys : List Act) → AreHeard here g xs → AreHeard here (gathered here g xs) ys → AreHeard here g (xs ++ ys)
+  heard_then g [] ys one two = two
+  heard_then g (x ∷ xs) ys one two = (one.0, heard_then (gathered_by here g x) xs ys one.1 two)
+
+  pub gathered_then : (g : List Gathered) (xs ys : List Act) → gathered here g (xs ++ ys) ≡ gathered here (gathered here g xs) ys
+  gathered_then g [] ys = refl
+  gathered_then g (x ∷ xs) ys = gathered_then (gathered_by here g x) xs ys
+
+  -- the same behind acts of which this was gathered
+  pub heard_on : (g mid : List Gathered) (xs ys : List Act) → AreHeard here g xs → mid ≡ gathered here g xs → AreHeard here mid ys → AreHeard here g (xs ++ ys)
+  heard_on g mid xs ys one same two = heard_then g xs ys one (subst (λ (m : List Gathered). AreHeard here m ys) same two)
+
+  pub gathered_on : (g mid : List Gathered) (xs ys : List Act) → mid ≡ gathered here g xs → gathered here mid ys ≡ gathered here g (xs ++ ys)
+  gathered_on g mid xs ys same = ap (λ (m : List Gathered). gathered here m ys) same ∙ sym (gathered_then g xs ys)
+
+  -- without a receive nothing is heard
+  pub none_heard : (g : List Gathered) (xs : List Act) → arrivals xs ≡ [] → AreHeard here g xs × (gathered here g xs ≡ g)
+  none_heard g [] none = (tt, refl)
+  none_heard g (received a e ∷ xs) none = absurd (let no : ⊥ = cc in no)
+  none_heard g (took m os ∷ xs) none = let rest = none_heard g xs none in ((tt, rest.0), rest.1)
+
+  -- one receive, with the acts behind it that receive nothing
+  pub one_heard : (g now : List Gathered) (a : Arrival) (e : Option Event) (xs : List Act) → e ≡ (heard here g a).event → now ≡ (heard here g a).gathered
+      → arrivals xs ≡ [] → AreHeard here g (received a e ∷ xs) × (now ≡ gathered here g (received a e ∷ xs))
+  one_heard g now a e xs is grown none =
+      let rest = none_heard (heard here g a).gathered xs none in
+      ((is, rest.0), grown ∙ sym rest.1)
+
+  -- the events that acts took are those in what they received
+  pub events_heard : (g : List Gathered) (xs : List Act) → AreHeard here g xs → flat_map events_of xs ≡ events_in here g (arrivals xs)
+  events_heard g [] are = refl
+  events_heard g (received a e ∷ xs) are =
+      (λ j. option_to_list (are.0 j) ++ events_heard (heard here g a).gathered xs are.1 j)
+  events_heard g (took m os ∷ xs) are = events_heard g xs are.1

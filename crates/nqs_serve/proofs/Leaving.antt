@@ -12,7 +12,7 @@ use Rattle.nqs_rules.specs.Stepped.{Stepped, shown}
 use Rattle.nqs_store.specs.Sound.{IsSoundHost}
 use Rattle.nqs_node.specs.Carried.{IsSpelled}
 use Rattle.nqs_node.specs.Leaves as nodes
-use Rattle.nqs_node.specs.Nodes.{active_of, bare, content_of, history_of, is_stopped, Tells}
+use Rattle.nqs_node.specs.Nodes.{active_of, bare, sized, content_of, history_of, is_stopped, Tells}
 use Rattle.nqs_node.specs.Reading.{AreShort}
 use Rattle.nqs_store.specs.declared.fault.StoreFault.{StoreFault}
 use Rattle.nqs_store.specs.declared.fault.StoreFault.TheVariants as fault
@@ -110,7 +110,7 @@ module _ {D T : Type 0} {g : disk.Ghosts D} (old now : Node D g) where
   }
 
   pub ok_taken : (was says : List Output) (step : Plain → Stepped (List ℕ)) (x : T) → AreRight 16 was → AreShort was
-      → AreRight 16 (map shown (step (bare old)).outputs) → AreShort (map shown (step (bare old)).outputs)
+      → AreRight 16 (map shown (step (bare old)).outputs) → AreShort (map shown (step (sized old)).outputs)
       → (IsTrue g.tells → (s : Plain) → Tells old s → IsSpelled (active_of old) (history_of old) (history_of now) (step s).change)
       → nodes.TakesStep old now was says step (Ok x) → TakesStep old now was says step (Ok x)
   ok_taken was says step x was_right was_short right short spelled takes = record {

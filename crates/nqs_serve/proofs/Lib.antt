@@ -14,4 +14,6 @@ mod Passing
 mod Leaving
 pub mod Moments
 mod Sorting
+mod Gathers
+mod Hearing
 mod Sampled

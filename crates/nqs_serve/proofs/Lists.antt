@@ -10,14 +10,16 @@ use Rattle.std.proofs.lemmas.List.Elements.{filter-append}
 use Rattle.std.proofs.lemmas.Grind.{flat_map-append}
 use Rattle.nqs_types.specs.declared.event.Output.{Output}
 use Rattle.nqs_types.specs.declared.event.Output.TheVariants as out
-use Rattle.nqs_outside.specs.Asked.{Traffic, outbound}
+use Rattle.nqs_outside.specs.Asked.{packet, Traffic, outbound}
+use Rattle.nqs_outside.specs.declared.wire.Address.{Address}
 use Rattle.nqs_outside.specs.Told.{Extends}
 use Rattle.nqs_outside.proofs.Told.{extends_then, extends_same}
 use Rattle.nqs_back.specs.Back.{brings_back, comebacks}
 use Rattle.nqs_serve.specs.Events.{Here}
-use Rattle.nqs_serve.specs.Letters.{letter_of, packets_in, AreReady}
+use Rattle.nqs_serve.specs.Letters.{letter_of, packets_in, packets_to, AreReady}
 use Rattle.nqs_serve.specs.Runs.{Outcome, packets, packets_by, sends, comeback_of, asked_by, prints_by, filings_by, Carried}
-use Rattle.nqs_serve.specs.Tellings.{Telling, Adds}
+use Rattle.nqs_serve.specs.Tellings.{Telling, Adds, Passes}
+use Rattle.nqs_serve.proofs.Tellings.{adds_then, passes_as}
 use Rattle.nqs_serve.specs.declared.letter.Letter.{Letter}
 
 -- one outcome more, in a list of what outcomes ask
@@ -95,6 +97,19 @@ taken_more xs i x less is = take_more xs i x less ∙ ap (λ v. take i xs ++ v �
 
 pub taken_all : {A : Type 0} (xs : List A) (i : ℕ) → length xs ≤ i → i ≤ length xs → take i xs ≡ xs
 taken_all xs i from to = let same : i ≡ length xs = omega (arith, from, to) in ap (λ n. take n xs) same ∙ take-length xs
+
+-- one datagram more was sent
+pub passes_more : (to : Address) (datagrams : List (List ℕ)) (i : ℕ) (datagram bytes : List ℕ) → i < length datagrams → datagram ≡ get_or datagrams i datagram
+    → bytes ≡ datagram → (was mid now : Telling) → Passes was mid (map outbound (packets_to to (take i datagrams)))
+    → Passes mid now (outbound (packet to bytes) ∷ []) → Passes was now (map outbound (packets_to to (take (i + 1) datagrams)))
+passes_more to datagrams i datagram bytes less is same was mid now before then =
+    let sent : List (List ℕ) → List Traffic = λ l. map outbound (packets_to to l) in
+    let all : sent (take (i + 1) datagrams) ≡ sent (take i datagrams) ++ outbound (packet to bytes) ∷ [] =
+    ap sent (taken_more datagrams i datagram less is)
+    ∙ ap (map outbound) (map-append (λ b. packet to b) (take i datagrams) (datagram ∷ []))
+    ∙ map-append outbound (packets_to to (take i datagrams)) (packet to datagram ∷ [])
+    ∙ ap (λ b. sent (take i datagrams) ++ outbound (packet to b) ∷ []) (sym same) in
+    passes_as was now _ _ (sym all) (adds_then was mid now before then)
 
 -- those that have their datagrams are the first
 pub ready_front : (here : Here) (was went now : List Output) (letters : List (Option Letter)) → now ≡ was ++ went → AreReady here was letters

@@ -55,9 +55,9 @@ module _ (here : Here) where
       → Tail here (after here (turn s waits) acts) more tail
       → (fs bs : List (Stepped (List ℕ))) → run_calls here (turn s waits) acts ++ tail ≡ fs ++ bs → IsPassed here (turn s waits) acts more (after_starts fs s)
   passes [] s waits more tail run ends fs bs is = ends fs bs is
-  passes (received arrival ∷ acts) s waits more tail run ends fs bs is =
-      let v = next here (turn s waits) (received arrival) in
-      passed_back (turn s waits) v (received arrival ∷ []) acts more (after_starts fs s) refl (passes acts s v.waits more tail run.1 ends fs bs is)
+  passes (received arrival e ∷ acts) s waits more tail run ends fs bs is =
+      let v = next here (turn s waits) (received arrival e) in
+      passed_back (turn s waits) v (received arrival e ∷ []) acts more (after_starts fs s) refl (passes acts s v.waits more tail run.1 ends fs bs is)
   passes (took m os ∷ acts) s [] more tail run ends fs bs is = absurd run.0
   passes (took m os ∷ acts) s (e ∷ es) more tail run ends fs bs is =
       let t = turn s (e ∷ es) in

@@ -6,6 +6,7 @@ use Rattle.nqs_types.specs.declared.message.Tool.TheVariants.{Qsub, Qstat, Qdel,
 use Rattle.nqs_types.specs.declared.message.Message.{Message}
 use Rattle.nqs_types.specs.declared.message.Body.{Body}
 use Rattle.nqs_types.specs.declared.message.Body.TheVariants.{Offer, Ready, Refused, Commit, Done, Inquire, Abort, Stage, Staged, Ask, Answer, Ended, EndedAck}
+use Rattle.nqs_types.specs.declared.message.Body.TheVariants.{Piece}
 use Rattle.nqs_types.specs.declared.event.Event.{Event}
 use Rattle.nqs_types.specs.declared.event.Event.TheVariants as event
 use Rattle.nqs_state.specs.State.{Plain}
@@ -98,6 +99,7 @@ right_by hosts m (Ask port token user tool words script) ok same from of_site = 
 right_by hosts m (Ended port id start status output error) ok same from of_site = or_right (port == 0) (is_right_id hosts id) (and_from _ _ of_site ok.1.0)
 right_by hosts m (Answer token good text) ok same from of_site = tt
 right_by hosts m (EndedAck id start) ok same from of_site = tt
+right_by hosts m (Piece kind port number index count bytes) ok same from of_site = tt
 
 -- what is read, and is for this host, is right
 pub right_event : (here : Here) (m : Message) → MaySend m → is_for here m ≡ true → IfSome (event_of m) (λ e. IsTrue (is_right_event (length here.site) e))
@@ -119,6 +121,7 @@ module _ (submissions : SubmissionsAreSane) (edits : EditsAreSane) (lists : List
   sane_by hosts m (Ended port id start status output error) ok sane = and_from _ _ ok.4.0 ok.5.0
   sane_by hosts m (Answer token good text) ok sane = tt
   sane_by hosts m (EndedAck id start) ok sane = tt
+  sane_by hosts m (Piece kind port number index count bytes) ok sane = tt
   sane_by hosts m (Offer n low q c s) ok sane = sane
   sane_by hosts m (Ready n) ok sane = sane
   sane_by hosts m (Refused n cause) ok sane = sane

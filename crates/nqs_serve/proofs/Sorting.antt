@@ -7,6 +7,7 @@ use Rattle.std.proofs.lemmas.Bool.Decides.{nat_tests}
 use Rattle.nqs_types.specs.declared.message.Message.{Message}
 use Rattle.nqs_types.specs.declared.message.Body.{Body}
 use Rattle.nqs_types.specs.declared.message.Body.TheVariants.{Offer, Ready, Refused, Commit, Done, Inquire, Abort, Stage, Staged, Ask, Answer, Ended, EndedAck}
+use Rattle.nqs_types.specs.declared.message.Body.TheVariants.{Piece}
 use Rattle.nqs_types.specs.declared.event.Event.{Event as Happening}
 use Rattle.nqs_rules.specs.Tests.{same_host}
 use Rattle.nqs_rules.specs.Sane.{is_of_site}
@@ -26,7 +27,7 @@ event_taken : (o : Option Happening) → taken_of (event_sorted o) ≡ o
 event_taken None = refl
 event_taken (Some e) = refl
 
-message_taken : (here : Here) (m : Message) → taken_of (message_sorted here m) ≡ (if is_for here m then event_of m else None)
+pub message_taken : (here : Here) (m : Message) → taken_of (message_sorted here m) ≡ (if is_for here m then event_of m else None)
 message_taken here m = by (same_host here.me m.to) (is_of_site (length here.site) m.from) (are_of_site (length here.site) m.body)
   where
     by : (a b c : Bool) → taken_of (if a then (if b && c then event_sorted (event_of m) else Ignored Stranger) else Ignored NotHere)
@@ -64,6 +65,7 @@ none_said m (Ask port token user tool words script) none = cc
 none_said m (Answer token good text) none = refl
 none_said m (Ended port id start status output error) none = cc
 none_said m (EndedAck id start) none = refl
+none_said m (Piece kind port number index count bytes) none = refl
 
 said_none : (m : Message) (b : Body) → is_said_back b ≡ true → event_by m b ≡ None
 said_none m (Offer n low q c s) said = cc
@@ -79,10 +81,11 @@ said_none m (Ask port token user tool words script) said = cc
 said_none m (Answer token good text) said = refl
 said_none m (Ended port id start status output error) said = cc
 said_none m (EndedAck id start) said = refl
+said_none m (Piece kind port number index count bytes) said = refl
 
 -- in one way
 
-module _ (here : Here) (bytes : List ℕ) (short : length bytes ≤ 49152) where
+module _ (here : Here) (bytes : List ℕ) (short : length bytes ≤ 1052672) where
   module _ (m : Message) (read : message_of bytes ≡ Ok m) where
     by_event : (o : Option Happening) → event_of m ≡ o → IsTrue (is_here here m) → IsTrue (is_known here m) → IsSorted here bytes (event_sorted o)
     by_event None none a k = (short, (m, read, (a, k, none_said m m.body none)))
@@ -120,8 +123,8 @@ pub is_sorted : (here : Here) (bytes : List ℕ) → IsSorted here bytes (sorted
 is_sorted here bytes = by (is_whole bytes) refl
   where
     by : (b : Bool) → is_whole bytes ≡ b → IsSorted here bytes (if b then read_sorted here (message_of bytes) else Ignored TooLong)
-    by true fits = by_read here bytes (let e : length bytes ≤ 49152 = grind (arith, nat_tests, fits) in e) (message_of bytes) refl
-    by false fits = (let e : 49152 < length bytes = grind (arith, nat_tests, fits) in e)
+    by true fits = by_read here bytes (let e : length bytes ≤ 1052672 = grind (arith, nat_tests, fits) in e) (message_of bytes) refl
+    by false fits = (let e : 1052672 < length bytes = grind (arith, nat_tests, fits) in e)
 
 sorted_is : (here : Here) (bytes : List ℕ) (s : Sorted) → IsSorted here bytes s → sorted here bytes ≡ s
 sorted_is here bytes (Ignored TooLong) long =
@@ -148,11 +151,11 @@ pub taken_sorted : (here : Here) (bytes : List ℕ) (s : Sorted) → s ≡ sorte
     → taken_of s ≡ event_in here (came bytes)
 taken_sorted here bytes s is = ap taken_of is ∙ events_are_taken here bytes
 
-pub from_fault : (here : Here) (bytes : List ℕ) (fault : PacketFault) (s : Sorted) → length bytes ≤ 49152
+pub from_fault : (here : Here) (bytes : List ℕ) (fault : PacketFault) (s : Sorted) → length bytes ≤ 1052672
     → (is_fault_of_memory fault ≡ false → Err fault ≡ message_of bytes) → HasFault fault s → s ≡ sorted here bytes
 from_fault here bytes fault s short answers has = has.0 ∙ sym (is_read here bytes short (Err fault) (sym (answers has.1)))
 
-pub from_message : (here : Here) (bytes : List ℕ) (m : Message) (s : Sorted) → length bytes ≤ 49152
+pub from_message : (here : Here) (bytes : List ℕ) (m : Message) (s : Sorted) → length bytes ≤ 1052672
     → message_of bytes ≡ Ok m → s ≡ message_sorted here m → s ≡ sorted here bytes
 from_message here bytes m s short read is = is ∙ sym (is_read here bytes short (Ok m) read)
 

@@ -1,5 +1,5 @@
 -- What is told, one call after another.
-use Rattle.std.proofs.Common.{ℕ, List, [], ◌++◌}
+use Rattle.std.proofs.Common.{◌≡◌, ℕ, List, [], ◌++◌}
 use Rattle.std.proofs.lemmas.List.{append-nil}
 use Rattle.nqs_outside.specs.Asked.{Traffic, Asked, Print, Filing}
 use Rattle.nqs_outside.proofs.Told.{extends_none, extends_then, extends_same}
@@ -33,4 +33,14 @@ passes_then {t} {x} {p} {f} a b c one two = record {
   prints = extends_then a.prints b.prints c.prints [] p one.prints two.prints;
   filings = extends_then a.filings b.filings c.filings [] f one.filings two.filings;
   given = extends_then a.given b.given c.given [] [] one.given two.given;
+}
+
+-- what passed the wire, said otherwise
+pub passes_as : (was now : Telling) (xs ys : List Traffic) → xs ≡ ys → Passes was now xs → Passes was now ys
+passes_as was now xs ys same one = record {
+  traffic = extends_same was.traffic now.traffic xs ys same one.traffic;
+  asked = one.asked;
+  prints = one.prints;
+  filings = one.filings;
+  given = one.given;
 }

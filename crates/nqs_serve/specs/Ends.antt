@@ -15,7 +15,7 @@ use Rattle.nqs_node.specs.declared.node.Node.{Node}
 use Rattle.nqs_node.specs.Nodes.{Tells, history_of}
 use Rattle.nqs_store.specs.Commits.{EachImage}
 use Rattle.nqs_store.specs.Images.{TellsOneOf}
-use Rattle.nqs_serve.specs.Events.{Here, event_in, stops_by}
+use Rattle.nqs_serve.specs.Events.{Here, stops_by}
 use Rattle.nqs_serve.specs.Keeping.{KeptBehind}
 use Rattle.nqs_serve.specs.Nodes.{IsAt}
 use Rattle.nqs_serve.specs.Steps.{said, calls}
@@ -27,7 +27,7 @@ use Rattle.nqs_serve.specs.declared.daemon.ServeEnd.TheVariants.{Shutdown, Turns
 
 -- of an act only a receive may bring a shutdown
 abbrev pub stop_of : Here → Turn → Act → List Bool
-stop_of here t (received arrival) = stops_by (event_in here arrival) t.state ∷ []
+stop_of here t (received arrival e) = stops_by e t.state ∷ []
 stop_of here t (took m outcomes) = []
 
 -- for each receive, whether it brought a shutdown that is answered Done

@@ -29,9 +29,9 @@ pub record Here : Type 0 where
   pub me : HostId
   pub site : List (List ℕ)
 
--- a longer datagram is none that a host writes, and was cut where it came
+-- what is longer is no message of a host
 abbrev pub is_whole : List ℕ → Bool
-is_whole bytes = nat_le (length bytes) 49152
+is_whole bytes = nat_le (length bytes) 1052672
 
 -- what is asked for by a tool's words; those of qmgr are one, its line
 abbrev pub command_of : List ℕ → Tool → List (List ℕ) → List ℕ → Command
@@ -52,12 +52,14 @@ are_of_site hosts _ = true
 abbrev pub is_for : Here → Message → Bool
 is_for here m = same_host here.me m.to && is_of_site (length here.site) m.from && are_of_site (length here.site) m.body
 
--- what is said to a client or a shepherd is no event of a host
+-- what is said to a client or a shepherd is no event of a host, and a piece of a message is none
+-- yet
 abbrev pub event_by : Message → Body → Option Event
 event_by m (body.Ask port token user tool words script) = Some (event.Ask 0 port token user (command_of user tool words script))
 event_by m (body.Ended port id start status output error) = Some (event.Ended 0 port id start status output error)
 event_by m (body.Answer _ _ _) = None
 event_by m (body.EndedAck _ _) = None
+event_by m (body.Piece _ _ _ _ _ _) = None
 event_by m _ = Some (event.Arrived 0 m)
 
 -- the event of a message, if it is one
@@ -69,7 +71,8 @@ abbrev pub event_said : Here → Result Message PacketFault → Option Event
 event_said here (Ok m) = if is_for here m then event_of m else None
 event_said here (Err fault) = None
 
--- an arrival is at most one event
+-- an arrival is at most one event, where its bytes are a message of their own: what a daemon hears
+-- of it, with the pieces that came before, stands in Gathers
 abbrev pub event_in : Here → Arrival → Option Event
 event_in here (came bytes) = if is_whole bytes then event_said here (message_of bytes) else None
 event_in here quiet = Some (event.Tick 0)

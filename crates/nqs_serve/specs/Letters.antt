@@ -13,7 +13,7 @@ use Rattle.nqs_rules.specs.Transcript.{reply_text}
 use Rattle.nqs_outside.specs.Asked.{Packet, packet}
 use Rattle.nqs_outside.specs.declared.wire.Address.{Address}
 use Rattle.nqs_outside.specs.declared.wire.Address.TheVariants.{Host, Client}
-use Rattle.nqs_packets.specs.Spelling.{spelling}
+use Rattle.nqs_packets.specs.Letters.{letters_of}
 use Rattle.nqs_serve.specs.Events.{Here}
 use Rattle.nqs_serve.specs.declared.letter.Letter.{Letter}
 
@@ -38,13 +38,13 @@ is_answered (reply.UnreadLine _) = false
 is_answered (reply.UnreadWords _) = false
 is_answered _ = true
 
--- a datagram, and where it goes
-abbrev pub letter : Address → List ℕ → Letter
-letter to bytes = record { to = to; bytes = bytes }
+-- datagrams, in order, and where they go
+abbrev pub letter : Address → List (List ℕ) → Letter
+letter to datagrams = record { to = to; datagrams = datagrams }
 
--- the datagram that spells a message
+-- the datagrams in which a message goes out: one, or its pieces' where it is longer
 abbrev pub posted : Address → Message → Letter
-posted to m = letter to (spelling m)
+posted to m = letter to (letters_of m)
 
 -- what this host says to those at its ports
 abbrev pub from_me : Here → Body → Message
@@ -57,11 +57,15 @@ letter_of here (out.Send m) = Some (posted (Host m.to) m)
 letter_of here (out.Ack port id start) = Some (posted (Client port) (from_me here (body.EndedAck id start)))
 letter_of here _ = None
 
--- a datagram is one packet
+-- datagrams to one place, as packets
+abbrev pub packets_to : Address → List (List ℕ) → List Packet
+packets_to to datagrams = map (λ bytes. packet to bytes) datagrams
+
+-- each datagram is one packet
 abbrev pub packets_in : Option Letter → List Packet
 packets_in None = []
-packets_in (Some l) = packet l.to l.bytes ∷ []
+packets_in (Some l) = packets_to l.to l.datagrams
 
--- each output has its datagram, if it has one
+-- each output has its datagrams, if it has any
 abbrev pub AreReady : Here → List Output → List (Option Letter) → Type 0
 AreReady here outputs letters = letters ≡ map (letter_of here) outputs

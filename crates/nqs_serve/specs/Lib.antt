@@ -10,4 +10,5 @@ pub mod Moments
 pub mod Nodes
 pub mod Leaves
 pub mod Sorted
+pub mod Gathers
 pub mod Samples

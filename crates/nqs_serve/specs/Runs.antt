@@ -11,7 +11,9 @@ use Rattle.nqs_types.specs.declared.event.Event.TheVariants as event
 use Rattle.nqs_types.specs.declared.event.Output.{Output}
 use Rattle.nqs_types.specs.declared.event.Output.TheVariants as out
 use Rattle.nqs_outside.specs.Asked.{Arrival, Packet, Traffic, inbound, outbound, Asked, launched, killed, Print, printed, Filing, filed}
-use Rattle.nqs_serve.specs.Events.{Here, event_in}
+use Rattle.nqs_pieces.specs.declared.gather.Gathered.{Gathered}
+use Rattle.nqs_serve.specs.Events.{Here}
+use Rattle.nqs_serve.specs.Gathers.{heard}
 use Rattle.nqs_serve.specs.Letters.{letter_of, packets_in}
 use Rattle.nqs_rules.specs.Stepped.{Stepped}
 use Rattle.nqs_serve.specs.Steps.{after_event, outputs, calls}
@@ -30,8 +32,8 @@ outcome output ok = record { output = output; ok = ok }
 
 -- the least thing that a daemon does
 pub data Act : Type 0 where
-  -- a receive
-  received : (arrival : Arrival) → Act
+  -- a receive, and the event that it brought, if it brought one
+  received : (arrival : Arrival) (event : Option Event) → Act
   -- the next event that waits was taken at this moment, and what went out was carried out
   took : (moment : ℕ) (outcomes : List Outcome) → Act
 
@@ -50,7 +52,7 @@ idle s = turn s []
 
 -- what an outcome asked of the outside
 
--- the datagram of it
+-- the datagrams of it
 abbrev pub packets_by : Here → Output → List Packet
 packets_by here output = packets_in (letter_of here output)
 
@@ -128,7 +130,7 @@ take_next m outcomes (e ∷ es) s = turn (after_event m e s) (es ++ come_back ou
 
 -- the turn after an act
 abbrev pub next : Here → Turn → Act → Turn
-next here t (received arrival) = turn t.state (t.waits ++ option_to_list (event_in here arrival))
+next here t (received arrival e) = turn t.state (t.waits ++ option_to_list e)
 next here t (took m outcomes) = take_next m outcomes t.waits t.state
 
 -- an event waits, and what is carried out is what goes out of it
@@ -138,7 +140,7 @@ IsTaken m outcomes (e ∷ es) s = outputs_in outcomes ≡ outputs m e s
 
 -- a receive comes only when nothing waits
 abbrev pub Allows : Turn → Act → Type 0
-Allows t (received arrival) = t.waits ≡ []
+Allows t (received arrival e) = t.waits ≡ []
 Allows t (took m outcomes) = IsTaken m outcomes t.waits t.state
 
 module _ (here : Here) where
@@ -159,7 +161,7 @@ next_calls m (e ∷ es) s = calls m e s
 
 -- what the calls of an act do, in order: a receive makes none
 abbrev pub act_calls : Turn → Act → List (Stepped (List ℕ))
-act_calls t (received arrival) = []
+act_calls t (received arrival e) = []
 act_calls t (took m outcomes) = next_calls m t.waits t.state
 
 -- what the calls of acts do, in order
@@ -171,22 +173,22 @@ run_calls here t (act ∷ acts) = act_calls t act ++ run_calls here (next here t
 
 -- what it received
 abbrev pub arrivals_of : Act → List Arrival
-arrivals_of (received arrival) = arrival ∷ []
+arrivals_of (received arrival e) = arrival ∷ []
 arrivals_of (took m outcomes) = []
 
 -- the moment that it took an event at
 abbrev pub moments_of : Act → List ℕ
-moments_of (received arrival) = []
+moments_of (received arrival e) = []
 moments_of (took m outcomes) = m ∷ []
 
 -- what it carried out
 abbrev pub outcomes_of : Act → List Outcome
-outcomes_of (received arrival) = []
+outcomes_of (received arrival e) = []
 outcomes_of (took m outcomes) = outcomes
 
 -- what passed the wire: what a receive brought, or the datagrams of what was carried out
 abbrev pub traffic_by : Here → Act → List Traffic
-traffic_by here (received arrival) = inbound arrival ∷ []
+traffic_by here (received arrival e) = inbound arrival ∷ []
 traffic_by here (took m outcomes) = sends here outcomes
 
 -- all that was received
@@ -241,9 +243,36 @@ pub record Ran (here : Here) (acts : List Act) (start finish : Turn) (more : Beg
   pub leads : after here start acts ≡ finish
   pub grew : Grew here acts more was now
 
--- the events in what was received
+-- what was received
+
+-- the messages of which pieces have come, after an act
+abbrev pub gathered_by : Here → List Gathered → Act → List Gathered
+gathered_by here g (received arrival e) = (heard here g arrival).gathered
+gathered_by here g (took m outcomes) = g
+
+-- a receive brought the event that its arrival is, with the pieces that came before
+abbrev pub IsHeard : Here → List Gathered → Act → Type 0
+IsHeard here g (received arrival e) = e ≡ (heard here g arrival).event
+IsHeard here g (took m outcomes) = Unit {0}
+
+-- each receive of acts did
+abbrev pub AreHeard : Here → List Gathered → List Act → Type 0
+AreHeard here g [] = Unit {0}
+AreHeard here g (act ∷ acts) = IsHeard here g act × AreHeard here (gathered_by here g act) acts
+
+-- the messages of which pieces have come, after acts
+abbrev pub gathered : Here → List Gathered → List Act → List Gathered
+gathered here g [] = g
+gathered here g (act ∷ acts) = gathered here (gathered_by here g act) acts
+
+-- the events in arrivals, of which one may end a message that comes in pieces
+abbrev pub events_in : Here → List Gathered → List Arrival → List Event
+events_in here g [] = []
+events_in here g (a ∷ more) = option_to_list (heard here g a).event ++ events_in here (heard here g a).gathered more
+
+-- the events in what was received, from no piece on
 abbrev pub events : Here → List Act → List Event
-events here acts = flat_map (λ arrival. option_to_list (event_in here arrival)) (arrivals acts)
+events here acts = events_in here [] (arrivals acts)
 
 -- one event after the other, each with its starts
 abbrev pub folded : Plain → List Event → List ℕ → Plain
@@ -260,7 +289,7 @@ folded_outputs s (e ∷ es) (m ∷ ms) = outputs m e s ++ folded_outputs (after_
 -- where nothing came back, a run that leaves nothing waiting is the fold of the step and its starts
 -- over the events in what was received
 abbrev pub RunsAreFolds : Type 0
-RunsAreFolds = (here : Here) (s : Plain) (acts : List Act) → IsRun here (idle s) acts → brought_back (outcomes acts) ≡ []
+RunsAreFolds = (here : Here) (s : Plain) (acts : List Act) → IsRun here (idle s) acts → AreHeard here [] acts → brought_back (outcomes acts) ≡ []
     → (after here (idle s) acts).waits ≡ []
     → ((after here (idle s) acts).state ≡ folded s (events here acts) (moments acts))
     × (outputs_in (outcomes acts) ≡ folded_outputs s (events here acts) (moments acts))

@@ -25,21 +25,23 @@ is_here here m = same_host here.me m.to
 abbrev pub is_known : Here → Message → Bool
 is_known here m = is_of_site (length here.site) m.from && are_of_site (length here.site) m.body
 
--- what is said to a client or a shepherd: an answer, or an acknowledgement of the end of a job
+-- what is said to a client or a shepherd, an answer or an acknowledgement of the end of a job; and
+-- a piece of a message
 abbrev pub is_said_back : Body → Bool
 is_said_back (body.Answer _ _ _) = true
 is_said_back (body.EndedAck _ _) = true
+is_said_back (body.Piece _ _ _ _ _ _) = true
 is_said_back _ = false
 
--- bytes that may be a datagram, and are read as a message that has P
+-- bytes that may be a message's, and are read as a message that has P
 abbrev pub Reads : List ℕ → (Message → Type 0) → Type 0
-Reads bytes P = (length bytes ≤ 49152) × ((m : Message) × (message_of bytes ≡ Ok m) × P m)
+Reads bytes P = (length bytes ≤ 1052672) × ((m : Message) × (message_of bytes ≡ Ok m) × P m)
 
 -- How a datagram is sorted: the causes in order, each where none before it holds, and else the event
 -- of its message.
 abbrev pub IsSorted : Here → List ℕ → Sorted → Type 0
-IsSorted here bytes (Ignored TooLong) = 49152 < length bytes
-IsSorted here bytes (Ignored (Unread fault)) = (length bytes ≤ 49152) × (message_of bytes ≡ Err fault)
+IsSorted here bytes (Ignored TooLong) = 1052672 < length bytes
+IsSorted here bytes (Ignored (Unread fault)) = (length bytes ≤ 1052672) × (message_of bytes ≡ Err fault)
 IsSorted here bytes (Ignored NotHere) = Reads bytes (λ m. is_here here m ≡ false)
 IsSorted here bytes (Ignored Stranger) = Reads bytes (λ m. IsTrue (is_here here m) × (is_known here m ≡ false))
 IsSorted here bytes (Ignored NotAsked) = Reads bytes (λ m. IsTrue (is_here here m) × IsTrue (is_known here m) × IsTrue (is_said_back m.body))
@@ -83,6 +85,6 @@ IfEvent (Ignored cause) P = Unit {0}
 abbrev pub SortedOneWay : Type 0
 SortedOneWay = (here : Here) (bytes : List ℕ) (s : Sorted) → IsSorted here bytes s ↔ s ≡ sorted here bytes
 
--- It is an event exactly where the daemon takes one of it, and just that one.
+-- It is an event exactly where its bytes are one, as a message of their own, and just that one.
 abbrev pub EventsAreTaken : Type 0
 EventsAreTaken = (here : Here) (bytes : List ℕ) → taken_of (sorted here bytes) ≡ event_in here (came bytes)

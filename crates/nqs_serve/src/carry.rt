@@ -6,17 +6,30 @@ ghost use Rattle.std.specs.Option.{option_to_list};
 ghost use Rattle.nqs_outside.specs.Asked.{outbound};
 ghost use Rattle.nqs_back.specs.Back.{comebacks};
 ghost use Rattle.nqs_serve.specs.Events.{Here};
-ghost use Rattle.nqs_serve.specs.Letters.{letter_of, packets_in};
+ghost use Rattle.nqs_serve.specs.Letters.{letter_of, packets_in, packets_to};
 ghost use Rattle.nqs_serve.specs.Runs.{Outcome, asked_by, prints_by, filings_by, comeback_of, outputs_in, brought_back, Carried};
 ghost use Rattle.nqs_serve.specs.Tellings.{Adds, Passes, Does};
 
 use crate::comeback::{Comeback, comeback_of};
 use crate::letter::Letter;
 use crate::outside::Outside;
+use nqs_base::Bytes;
+use nqs_outside::Address;
 use nqs_types::Output;
 use std::collections::VecDeque;
 
-// Sends a datagram, if there is one.
+// Sends datagrams to one place, in order.
+fn send_all<X: Outside>(outside: &mut X, to: Address, datagrams: &[Bytes])
+    ensures sends { Passes (X.told outside.old) (X.told outside.new) (map outbound (packets_to to datagrams.now)) }
+    ensures heard { X.receive_faults outside.new ≡ X.receive_faults outside.old }
+    ensures borrows { X.borrows outside.new ≡ X.borrows outside.old }
+{
+    for place in 0..datagrams.len() {
+        outside.send(to, datagrams[place].as_slice());
+    }
+}
+
+// Sends the datagrams of an output, if it has any.
 #[tactic(auto, using(crate::proofs::Tellings::adds_none))]
 fn send<X: Outside>(outside: &mut X, letter: &Option<Letter>)
     ensures sends { Passes (X.told outside.old) (X.told outside.new) (map outbound (packets_in letter.now)) }
@@ -24,7 +37,7 @@ fn send<X: Outside>(outside: &mut X, letter: &Option<Letter>)
     ensures borrows { X.borrows outside.new ≡ X.borrows outside.old }
 {
     if let Some(letter) = letter {
-        outside.send(letter.to, letter.bytes.as_slice());
+        send_all(outside, letter.to, letter.datagrams.as_slice());
     }
 }
 
@@ -87,7 +100,7 @@ fn carry_one<X: Outside>(
     ok
 }
 
-/// Carries out the outputs, each with its datagram if it has one. What comes back of them is added
+/// Carries out the outputs, each with its datagrams if it has any. What comes back of them is added
 /// to `back`, which has room for it.
 pub(crate) fn carry<X: Outside>(
     outside: &mut X,

@@ -9,7 +9,7 @@ ghost use Rattle.nqs_records.specs.Values.{IsHost};
 ghost use Rattle.nqs_store.specs.Sound.{IsSoundHost};
 ghost use Rattle.nqs_serve.specs.Events.{Here};
 ghost use Rattle.nqs_serve.specs.Keeping.{Keeps};
-ghost use Rattle.nqs_serve.specs.Runs.{Act, Turn, idle, Ran, Begun, none_begun, run_calls};
+ghost use Rattle.nqs_serve.specs.Runs.{Act, Turn, idle, AreHeard, gathered, Ran, Begun, none_begun, run_calls};
 ghost use Rattle.nqs_serve.specs.Nodes.{Knows, here_of};
 ghost use Rattle.nqs_serve.specs.Leaves.{Leaves};
 ghost use Rattle.nqs_serve.specs.Ends.{Ends, stops, end_of, cuts_off};
@@ -17,14 +17,15 @@ ghost use Rattle.nqs_serve.specs.Moments.{TellsThroughout, IsPassed};
 ghost use Rattle.nqs_serve.specs.Tellings.{telling, AddsNone};
 
 use crate::cut::Cut;
+use crate::gathering::Came;
 use crate::notes::{Notes, Unnoted};
 use crate::outside::{Lent, Outside};
 use crate::receive::{Missed, receive};
-use crate::sort::Sorted;
 use crate::take::{Outbox, take_back, take_event};
 use nqs_base::Memory;
 use nqs_node::Node;
 use nqs_outside::{Clock, Disk, Launcher, Outlet, Printer, Wire};
+use nqs_pieces::Gather;
 use nqs_types::{Event, HostId, Which};
 use std::alloc::Global;
 use std::collections::VecDeque;
@@ -77,6 +78,7 @@ fn tend_at<X: Outside>(event: &Event, outside: &mut X)
 #[derive(Drop)]
 struct Room {
     buf: Vec<u8>,
+    gather: Gather,
     outbox: Outbox,
 }
 
@@ -95,10 +97,11 @@ fn turn<D: Disk, X: Outside>(
     ensures leaves { Leaves node.old node.new ServeEnd.DiskFault result }
     ensures ok { (s : Plain) (here : Here) → Knows node.old s → here ≡ record { me = me; site = (content_of node.old).site }
         → IfOk result (λ stop. (acts : List Act) × (u : Plain) × Knows node.new u × (stops here (idle s) acts ≡ stop ∷ [])
+        × AreHeard here room.old.gather acts × (room.new.gather ≡ gathered here room.old.gather acts)
         × Ran here acts (idle s) (idle u) none_begun (X.told outside.old) (X.told outside.new)
         × Keeps node.old node.new s (run_calls here (idle s) acts)) }
     ensures err { (s : Plain) (here : Here) → Knows node.old s → here ≡ record { me = me; site = (content_of node.old).site }
-        → IfErr result (λ end. (acts : List Act) × (t : Turn) × (more : Begun)
+        → IfErr result (λ end. (acts : List Act) × (t : Turn) × (more : Begun) × AreHeard here room.old.gather acts
         × Ran here acts (idle s) t more (X.told outside.old) (X.told outside.new)
         × Ends node.old s (run_calls here (idle s) acts) end 1 (stops here (idle s) acts) t more node.new) }
     ensures early { IfErr result (λ end. IsTrue (cuts_off end)) }
@@ -108,12 +111,14 @@ fn turn<D: Disk, X: Outside>(
     ensures room { length room.new.buf.items ≡ length room.old.buf.items }
 {
     let site = node.state().site.as_slice();
-    let mut event = match receive(room.outbox.alloc, me, site, outside, &mut room.buf) {
-        Ok(Sorted::Event(event)) => event,
-        Ok(Sorted::Ignored(cause)) => {
+    let alloc = room.outbox.alloc;
+    let mut event = match receive(alloc, me, site, outside, &mut room.buf, &mut room.gather) {
+        Ok(Came::Event(event)) => event,
+        Ok(Came::Ignored(cause)) => {
             outside.ignored(&cause);
             return Ok(false);
         }
+        Ok(Came::Piece) => return Ok(false),
         Err(Missed::Wire) => return Err(ServeEnd::WireFault),
         Err(Missed::Memory(memory)) => return Err(ServeEnd::Memory(memory)),
     };
@@ -147,7 +152,7 @@ fn turns_in<D: Disk, X: Outside>(
     ensures sound { IsSoundHost (content_of node.new) }
     ensures site { (content_of node.new).site ≡ (content_of node.old).site }
     ensures run { (s : Plain) (here : Here) → Knows node.old s → here ≡ record { me = me; site = (content_of node.old).site }
-        → (acts : List Act) × (t : Turn) × (more : Begun)
+        → (acts : List Act) × (t : Turn) × (more : Begun) × AreHeard here room.old.gather acts
         × Ran here acts (idle s) t more (X.told outside.old) (X.told outside.new)
         × Ends node.old s (run_calls here (idle s) acts) result turns (stops here (idle s) acts) t more node.new }
     ensures wire_fault { result ≡ ServeEnd.WireFault → Rose (X.receive_faults outside.old) (X.receive_faults outside.new) }
@@ -183,7 +188,7 @@ fn serve_lent<D: Disk, W: Wire, L: Launcher, P: Printer, O: Outlet, C: Clock, N:
     ensures sound { IsSoundHost (content_of node.new) }
     ensures site { (content_of node.new).site ≡ (content_of node.old).site }
     ensures run { (s : Plain) (here : Here) → Knows node.old s → here ≡ record { me = me; site = (content_of node.old).site }
-        → (acts : List Act) × (t : Turn) × (more : Begun) × Ran here acts (idle s) t more
+        → (acts : List Act) × (t : Turn) × (more : Begun) × AreHeard here room.old.gather acts × Ran here acts (idle s) t more
         (telling (W.traffic lent.old.wire.now) (L.asked lent.old.launcher.now) (P.prints lent.old.printer.now)
         (O.filings lent.old.outlet.now) (C.given lent.old.clock.now))
         (telling (W.traffic lent.new.wire.now) (L.asked lent.new.launcher.now) (P.prints lent.new.printer.now)
@@ -209,7 +214,8 @@ const ROOM: usize = 49_185;
 /// that it brought with the starts after it, and the events that come back of what went out. Where
 /// nothing came, the launcher is tended first.
 ///
-/// The node's state is that after the run over what was received, and what the outside was asked
+/// The node's state is that after the run over what was received, in which the pieces of a message
+/// are one with the last of them, and what the outside was asked
 /// for is just what goes out of that run, in order: the datagrams of an event are sent before the
 /// next receive. What the node's disks keep are just the changes of that run, in order: an event
 /// without a change writes nothing and syncs nothing. Whatever a stop leaves of the disks at any
@@ -232,7 +238,7 @@ pub fn serve<D: Disk, W: Wire, L: Launcher, P: Printer, O: Outlet, C: Clock>(
     ensures sound { IsSoundHost (content_of node.new) }
     ensures site { (content_of node.new).site ≡ (content_of node.old).site }
     ensures run { IsTrue D.tells → (s : Plain) → Tells node.old s → (acts : List Act) × (t : Turn) × (more : Begun)
-        × Ran (here_of node.old) acts (idle s) t more
+        × AreHeard (here_of node.old) [] acts × Ran (here_of node.old) acts (idle s) t more
         (telling (W.traffic wire.old) (L.asked launcher.old) (P.prints printer.old) (O.filings outlet.old) (C.given clock.old))
         (telling (W.traffic wire.new) (L.asked launcher.new) (P.prints printer.new) (O.filings outlet.new) (C.given clock.new))
         × Ends node.old s (run_calls (here_of node.old) (idle s) acts) result turns (stops (here_of node.old) (idle s) acts) t more node.new
@@ -265,7 +271,7 @@ pub fn serve_with_notes<D: Disk, W: Wire, L: Launcher, P: Printer, O: Outlet, C:
     ensures sound { IsSoundHost (content_of node.new) }
     ensures site { (content_of node.new).site ≡ (content_of node.old).site }
     ensures run { IsTrue D.tells → (s : Plain) → Tells node.old s → (acts : List Act) × (t : Turn) × (more : Begun)
-        × Ran (here_of node.old) acts (idle s) t more
+        × AreHeard (here_of node.old) [] acts × Ran (here_of node.old) acts (idle s) t more
         (telling (W.traffic wire.old) (L.asked launcher.old) (P.prints printer.old) (O.filings outlet.old) (C.given clock.old))
         (telling (W.traffic wire.new) (L.asked launcher.new) (P.prints printer.new) (O.filings outlet.new) (C.given clock.new))
         × Ends node.old s (run_calls (here_of node.old) (idle s) acts) result turns (stops (here_of node.old) (idle s) acts) t more node.new
@@ -285,7 +291,12 @@ pub fn serve_with_notes<D: Disk, W: Wire, L: Launcher, P: Printer, O: Outlet, C:
         letters: Vec::new(alloc),
         back: VecDeque::new(alloc),
     };
-    let mut room = Room { buf, outbox };
+    let gather = Gather::new(alloc);
+    let mut room = Room {
+        buf,
+        gather,
+        outbox,
+    };
     let mut lent = Lent {
         wire,
         launcher,

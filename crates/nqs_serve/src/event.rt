@@ -106,6 +106,7 @@ pub(crate) fn event_of(alloc: Global, message: Message) -> Result<Option<Event>,
         } => Ok(Some(ended(port, (id, start), status, out, err))),
         Body::Answer { .. } => Ok(None),
         Body::EndedAck { .. } => Ok(None),
+        Body::Piece { .. } => Ok(None),
         body => Ok(Some(Event::Arrived {
             now: 0,
             message: Message { from, to, body },

@@ -4,11 +4,17 @@ ghost use Rattle.std.specs.Prelude.{◌≡◌, [], ◌∷◌};
 ghost use Rattle.nqs_types.specs.declared.event.Event.TheVariants.{Arrived};
 ghost use Rattle.nqs_types.specs.declared.message.Body.TheVariants.{Done};
 ghost use Rattle.nqs_packets.specs.declared.fault.PacketFault.TheVariants.{Short, Version};
+ghost use Rattle.nqs_serve.specs.Gathers.{HeardAsSorted, HeardFromTheirLetters, MadeAsSorted};
 ghost use Rattle.nqs_serve.specs.Runs.{RunsAreFolds};
 ghost use Rattle.nqs_serve.specs.Sorted.{sorted, SortedOneWay, EventsAreTaken};
 ghost use Rattle.nqs_serve.specs.Samples.{done_by, done_from, one_of_two};
 ghost use Rattle.nqs_serve.specs.declared.sort.IgnoreCause.TheVariants.{Unread, NotHere, Stranger};
 ghost use Rattle.nqs_serve.specs.declared.sort.Sorted.TheVariants.{Event, Ignored};
+
+use nqs_packets::{
+    each_letter_fits, pieces_are_read_back, reads_the_spelling, what_is_short_may_go,
+};
+use nqs_pieces::laws::pieces_make_the_message;
 
 /// Where no launch, print or file came back, the state after a run that leaves nothing waiting is
 /// the fold of the step and its starts over the events in what was received, with the moments that
@@ -22,10 +28,34 @@ pub fn datagrams_are_sorted_one_way()
     ensures { SortedOneWay }
 {}
 
-/// A datagram is sorted as an event exactly where the daemon takes one of it, and as just that one.
+/// Bytes are sorted as an event exactly where they are one, as a message of their own, and as just
+/// that one.
 pub fn sorted_events_are_taken()
     ensures { EventsAreTaken }
 {}
+
+/// A datagram that is no piece is to the daemon just what it is sorted as.
+pub fn datagrams_are_heard_as_sorted()
+    ensures { HeardAsSorted }
+{}
+
+/// What pieces made is to the daemon just what it is sorted as, where it is the message that these
+/// say.
+pub fn made_messages_are_heard_as_sorted()
+    ensures { MadeAsSorted }
+{}
+
+/// What one host says to another is heard, whole or in pieces: its datagrams, in order, bring just
+/// the event that the message is, with the last of them.
+pub fn what_is_said_is_heard()
+    ensures { HeardFromTheirLetters }
+{
+    pieces_make_the_message();
+    pieces_are_read_back();
+    reads_the_spelling();
+    what_is_short_may_go();
+    each_letter_fits();
+}
 
 /// DONE of handover 1 from host 1 to host 0, of two: an event there and nowhere else. From a host
 /// that the site doesn't have it is a stranger's; its first byte alone is short. That of an older

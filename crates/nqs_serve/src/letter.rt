@@ -1,9 +1,11 @@
-//! What is sent: the datagrams of outputs are spelled before anything goes out.
+//! What is sent: the datagrams of outputs are spelled before anything goes out. A message that is
+//! longer than a datagram goes out in pieces.
 
 ghost use Rattle.std.specs.Prelude.{◌≡◌, ◌≤◌, IfOk, OnOk, IsTrue, take, length};
 ghost use Rattle.nqs_codec.specs.Takes.{IsLong};
 ghost use Rattle.nqs_records.specs.Values.{IsHost};
 ghost use Rattle.nqs_node.specs.Reading.{carries_short, sends_short, AreShort};
+ghost use Rattle.nqs_packets.specs.Letters.{has_short_words};
 ghost use Rattle.nqs_packets.specs.Values.{MaySend};
 ghost use Rattle.nqs_serve.specs.Sends.{is_right_id, is_right_message, is_right_output, AreRight};
 ghost use Rattle.nqs_serve.specs.Events.{Here};
@@ -14,29 +16,28 @@ ghost use Rattle.nqs_rules.specs.Transcript.{reply_text};
 
 use crate::said::may_be_sent;
 use crate::text::cut_text;
-use nqs_base::{Bytes, Memory, Name};
+use nqs_base::{Bytes, Items, Memory, Name};
 use nqs_outside::Address;
-use nqs_packets::write_message;
+use nqs_packets::letters_of;
 use nqs_query::print_reply;
 use nqs_types::{Body, HostId, Message, Output, Reply, RequestId};
 use std::alloc::Global;
 
-/// A datagram, and where it goes.
+/// Datagrams, in order, and where they go.
 #[derive(Drop)]
 pub(crate) struct Letter {
     pub(crate) to: Address,
-    pub(crate) bytes: Bytes,
+    pub(crate) datagrams: Items<Bytes>,
 }
 
-// The datagram of a message.
+// The datagrams of a message.
 fn post(alloc: Global, to: Address, message: &Message) -> Result<Option<Letter>, Memory>
-    requires { MaySend message.now }
+    requires may { MaySend message.now }
+    requires short { IsTrue (has_short_words message.now.body) }
     ensures { IfOk result (λ l. l ≡ Some (posted to message.now)) }
 {
-    let mut bytes = Vec::new(alloc);
-    write_message(alloc, message, &mut bytes)?;
-    let bytes = Bytes::from_vec(bytes);
-    Ok(Some(Letter { to, bytes }))
+    let datagrams = Items::from_vec(letters_of(alloc, message)?);
+    Ok(Some(Letter { to, datagrams }))
 }
 
 // What a host says to a host.
@@ -64,7 +65,8 @@ fn is_answered(reply: &Reply) -> bool
 // The text of a reply, as it fits a datagram.
 fn text_of(alloc: Global, site: &[Name], reply: &Reply) -> Result<Bytes, Memory>
     ensures text { IfOk result (λ text. text ≡ cut_text (reply_text site.now reply.now)) }
-    ensures short { IfOk result (λ text. IsLong text) }
+    ensures long { IfOk result (λ text. IsLong text) }
+    ensures short { IfOk result (λ text. length text ≤ 48006) }
 {
     let mut text = Vec::new(alloc);
     print_reply(alloc, reply, site, &mut text)?;
@@ -118,7 +120,7 @@ fn acknowledgement(
     post(alloc, Address::Client(port), &message)
 }
 
-// The datagram of an output, if it has one.
+// The datagrams of an output, if it has any.
 fn letter_of(
     alloc: Global,
     me: HostId,

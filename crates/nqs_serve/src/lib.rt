@@ -3,6 +3,7 @@
 //!
 //! A turn is a receive, the event that it brought, and the events that come back of what went out.
 //! `specs/Runs.antt` says what a run is, `specs/Events.antt` which event a datagram is,
+//! `specs/Gathers.antt` which one a message is that comes in pieces,
 //! `specs/Sorted.antt` why one is none, `specs/Leaves.antt` what a call leaves of its node,
 //! `specs/Ends.antt` how a run ends.
 #![tactic(auto)]
@@ -12,6 +13,7 @@ mod comeback;
 mod cut;
 mod daemon;
 mod event;
+mod gathering;
 pub mod laws;
 mod letter;
 mod notes;

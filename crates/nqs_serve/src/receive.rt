@@ -3,17 +3,18 @@
 ghost use Rattle.std.specs.Prelude.{◌≡◌, ◌<◌, ◌∷◌, [], IfOk, IsErrOf, IsTrue, length};
 ghost use Rattle.nqs_base.specs.Want.{want};
 ghost use Rattle.nqs_outside.specs.Causes.{Rose};
-ghost use Rattle.nqs_outside.specs.Asked.{Arrival, inbound};
+ghost use Rattle.nqs_outside.specs.Asked.{Arrival, quiet, inbound};
 ghost use Rattle.nqs_rules.specs.Sane.{is_sane_event};
-ghost use Rattle.nqs_serve.specs.Events.{Here, event_in};
+ghost use Rattle.nqs_serve.specs.Events.{Here};
+ghost use Rattle.nqs_serve.specs.Gathers.{heard, taken_by, IfTaken};
 ghost use Rattle.nqs_serve.specs.Sends.{is_right_event};
-ghost use Rattle.nqs_serve.specs.Sorted.{taken_of, IfEvent};
 ghost use Rattle.nqs_serve.specs.Tellings.{AddsNone, Passes};
 
+use crate::gathering::{Came, hear};
 use crate::outside::Outside;
-use crate::sort::{Sorted, sort_datagram};
 use nqs_base::{Memory, Name};
 use nqs_outside::Received;
+use nqs_pieces::Gather;
 use nqs_types::{Event, HostId};
 use std::alloc::Global;
 
@@ -25,20 +26,33 @@ pub(crate) enum Missed {
     Memory(Memory),
 }
 
-/// What a receive brought: an event with the moment 0, or what is ignored. The buffer has room for
-/// one byte more than the longest datagram.
+// Nothing came: what came in part is forgotten.
+#[tactic(auto, unfolding(crate::specs::Gathers::heard))]
+fn forget(gather: &mut Gather) -> Came
+    ensures event { (here : Here) → taken_by result ≡ (heard here gather.old quiet).event }
+    ensures gathered { (here : Here) → gather.new ≡ (heard here gather.old quiet).gathered }
+    ensures tick { result ≡ Came.Event (Event.Tick 0) }
+{
+    gather.clear();
+    Came::Event(Event::Tick { now: 0 })
+}
+
+/// What a receive brought: an event with the moment 0, what is ignored, or a piece of a message.
+/// The buffer has room for one byte more than the longest datagram.
 pub(crate) fn receive<X: Outside>(
     alloc: Global,
     me: HostId,
     site: &[Name],
     outside: &mut X,
     buf: &mut [u8],
-) -> Result<Sorted, Missed>
+    gather: &mut Gather,
+) -> Result<Came, Missed>
     requires room { 49_152 < length buf.old }
-    ensures came { IfOk result (λ s. (arrival : Arrival) × (taken_of s ≡ event_in (record { me = me; site = site.now }) arrival)
+    ensures came { IfOk result (λ c. (arrival : Arrival) × (taken_by c ≡ (heard (record { me = me; site = site.now }) gather.old arrival).event)
+        × (gather.new ≡ (heard (record { me = me; site = site.now }) gather.old arrival).gathered)
         × Passes (X.told outside.old) (X.told outside.new) (inbound arrival ∷ [])) }
-    ensures sane { IfOk result (λ s. IfEvent s (λ e. IsTrue (is_sane_event (length site.now) e))) }
-    ensures right { IfOk result (λ s. IfEvent s (λ e. IsTrue (is_right_event (length site.now) e))) }
+    ensures sane { IfOk result (λ c. IfTaken c (λ e. IsTrue (is_sane_event (length site.now) e))) }
+    ensures right { IfOk result (λ c. IfTaken c (λ e. IsTrue (is_right_event (length site.now) e))) }
     ensures cut { IsErrOf result (Missed.Memory want) → (arrival : Arrival) × Passes (X.told outside.old) (X.told outside.new) (inbound arrival ∷ []) }
     ensures lost { IsErrOf result Missed.Wire → AddsNone (X.told outside.old) (X.told outside.new)
         × Rose (X.receive_faults outside.old) (X.receive_faults outside.new) }
@@ -50,9 +64,9 @@ pub(crate) fn receive<X: Outside>(
         return Err(Missed::Wire);
     };
     match received {
-        Received::Quiet => Ok(Sorted::Event(Event::Tick { now: 0 })),
-        Received::Datagram(count) => match sort_datagram(alloc, site, me, &buf[..count]) {
-            Ok(sorted) => Ok(sorted),
+        Received::Quiet => Ok(forget(gather)),
+        Received::Datagram(count) => match hear(alloc, site, me, &buf[..count], gather) {
+            Ok(came) => Ok(came),
             Err(memory) => Err(Missed::Memory(memory)),
         },
     }

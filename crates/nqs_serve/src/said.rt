@@ -5,6 +5,7 @@
 
 ghost use Rattle.std.specs.Prelude.{IsTrue, nat_le};
 ghost use Rattle.nqs_node.specs.Reading.{carries_short};
+ghost use Rattle.nqs_packets.specs.Letters.{has_short_words};
 ghost use Rattle.nqs_packets.specs.Messages.{IsTypedJob, IsSaid};
 ghost use Rattle.nqs_packets.specs.Values.{IsNumber, MaySend};
 ghost use Rattle.nqs_serve.specs.Sends.{has_number, is_right_message};
@@ -60,6 +61,7 @@ fn body_is_typed(body: &Body)
         Body::Answer { .. } => unreachable!(),
         Body::Ended { .. } => unreachable!(),
         Body::EndedAck { .. } => unreachable!(),
+        Body::Piece { .. } => unreachable!(),
     }
 }
 
@@ -67,7 +69,8 @@ fn body_is_typed(body: &Body)
 pub(crate) fn may_be_sent(message: &Message)
     requires right { IsTrue (is_right_message 16 message.now) }
     requires short { IsTrue (carries_short message.now.body) }
-    ensures { MaySend message.now }
+    ensures may { MaySend message.now }
+    ensures few { IsTrue (has_short_words message.now.body) }
 {
     what_is_sane_may_be_sent();
     body_is_typed(&message.body);

@@ -4,6 +4,7 @@ ghost use Rattle.std.specs.Prelude.{◌≡◌, ℕ, List, false, IfOk, IsTrue, l
 ghost use Rattle.nqs_rules.specs.Sane.{is_sane_event};
 ghost use Rattle.nqs_outside.specs.Asked.{came};
 ghost use Rattle.nqs_packets.specs.Reading.{is_fault_of_memory};
+ghost use Rattle.nqs_packets.specs.Values.{MaySend};
 ghost use Rattle.nqs_packets.specs.declared.fault.PacketFault.{PacketFault as Fault};
 ghost use Rattle.nqs_serve.specs.Events.{Here, event_of, event_in};
 ghost use Rattle.nqs_serve.specs.Sends.{is_right_event};
@@ -19,7 +20,7 @@ use std::alloc::Global;
 /// Why a datagram is no event. The first of these that holds is the cause.
 #[derive(Debug, PartialEq, Eq, Drop)]
 pub enum IgnoreCause {
-    /// It has more than 49,152 bytes, as no host writes it.
+    /// It has more than 1,052,672 bytes, as no message has.
     TooLong,
     /// It is no message. The fault is never `Memory`.
     Unread(PacketFault),
@@ -27,7 +28,8 @@ pub enum IgnoreCause {
     NotHere,
     /// It comes from no host of the site, or names a request of none.
     Stranger,
-    /// It is said to a client or a shepherd: an answer, or an acknowledgement of the end of a job.
+    /// It is said to a client or a shepherd, an answer or an acknowledgement of the end of a job;
+    /// or it is a piece of a message.
     NotAsked,
 }
 
@@ -38,17 +40,17 @@ pub enum Sorted {
     Ignored(IgnoreCause),
 }
 
-/// The longest datagram.
-const LONGEST: usize = 49_152;
+/// The longest message.
+const LONGEST: usize = 1_052_672;
 
-fn ignored(cause: IgnoreCause) -> Sorted
+pub(crate) fn ignored(cause: IgnoreCause) -> Sorted
     ensures { result ≡ Sorted.Ignored cause }
 {
     Sorted::Ignored(cause)
 }
 
-// A datagram that is no message.
-fn unread(fault: PacketFault) -> Result<Sorted, Memory>
+/// A datagram that is no message.
+pub(crate) fn unread(fault: PacketFault) -> Result<Sorted, Memory>
     ensures { IfOk result (HasFault fault) }
 {
     match fault {
@@ -111,8 +113,27 @@ fn sort_message(
     }
 }
 
-/// Sorts a datagram that this host of a site got. The bytes may be any. An event has the moment 0,
-/// and gets its own when it is taken. An ask whose words can't be read is one too, and is answered.
+/// Sorts a message that was read, which this host of a site got. An event has the moment 0.
+pub(crate) fn sort_read(
+    alloc: Global,
+    site: &[Name],
+    me: HostId,
+    message: Message,
+) -> Result<Sorted, Memory>
+    requires { MaySend message }
+    ensures sorted { IfOk result (λ s. s ≡ message_sorted (record { me = me; site = site.now }) message) }
+    ensures sane { IfOk result (λ s. IfEvent s (λ e. IsTrue (is_sane_event (length site.now) e))) }
+    ensures right { IfOk result (λ s. IfEvent s (λ e. IsTrue (is_right_event (length site.now) e))) }
+{
+    submissions_are_sane();
+    edits_are_sane();
+    lists_and_deletions_are_sane();
+    sort_message(alloc, site, me, message)
+}
+
+/// Sorts a message that this host of a site got, as the bytes of a datagram or of its pieces. The
+/// bytes may be any. An event has the moment 0, and gets its own when it is taken. An ask whose
+/// words can't be read is one too, and is answered.
 pub fn sort_datagram(
     alloc: Global,
     site: &[Name],
@@ -121,7 +142,7 @@ pub fn sort_datagram(
 ) -> Result<Sorted, Memory>
     ensures sorted { IfOk result (IsSorted (record { me = me; site = site.now }) bytes.now) }
     ensures memory { IfOk result (λ s. (fault : Fault) → s ≡ Sorted.Ignored (IgnoreCause.Unread fault) → is_fault_of_memory fault ≡ false) }
-    // It is an event exactly where the daemon takes one of it, and just that one.
+    // It is an event exactly where its bytes are one, as a message of their own, and just that one.
     ensures taken { IfOk result (λ s. taken_of s ≡ event_in (record { me = me; site = site.now }) (came bytes.now)) }
     ensures sane { IfOk result (λ s. IfEvent s (λ e. IsTrue (is_sane_event (length site.now) e))) }
     ensures right { IfOk result (λ s. IfEvent s (λ e. IsTrue (is_right_event (length site.now) e))) }
@@ -129,11 +150,8 @@ pub fn sort_datagram(
     if bytes.len() > LONGEST {
         return Ok(ignored(IgnoreCause::TooLong));
     }
-    submissions_are_sane();
-    edits_are_sane();
-    lists_and_deletions_are_sane();
     match read_message(alloc, bytes) {
         Err(fault) => unread(fault),
-        Ok(message) => sort_message(alloc, site, me, message),
+        Ok(message) => sort_read(alloc, site, me, message),
     }
 }

@@ -9,7 +9,8 @@ use nqs_base::{Bytes, Name};
 // What is wrong with bytes that a length can't tell.
 const TOO_LONG: Trouble = Trouble("bytes are too long for a datagram");
 
-fn put_bytes(bytes: &[u8], out: &mut Vec<u8>) -> Result<(), Trouble> {
+/// Adds a length of four bytes, and the bytes.
+pub(crate) fn put_bytes(bytes: &[u8], out: &mut Vec<u8>) -> Result<(), Trouble> {
     let Ok(length) = u32::try_from(bytes.len()) else {
         return Err(TOO_LONG);
     };

@@ -1,6 +1,6 @@
 //! Serves days over an outside in memory, and prints what was seen: `stdout` has what is to be
 //! seen, by hand. A host of a site of one serves a day, days on which a call of its outside or of a
-//! disk fails, and literal datagrams; shepherds and a client speak over a wire.
+//! disk fails, literal datagrams, and pieces of one; shepherds and a client speak over a wire.
 #![tactic(auto)]
 
 mod coming;
@@ -10,6 +10,7 @@ mod days;
 mod host;
 mod literal;
 mod outside;
+mod pieces;
 mod shepherds;
 mod text;
 mod told;
@@ -17,6 +18,7 @@ mod trouble;
 
 use days::put_days;
 use literal::put_literal;
+use pieces::put_pieces;
 use shepherds::{put_client, put_shepherds};
 use std::alloc::Global;
 use std::io;
@@ -27,6 +29,7 @@ use trouble::Trouble;
 fn put_all(alloc: Global, out: &mut Vec<u8>) -> Result<(), Trouble> {
     put_days(alloc, out)?;
     put_literal(alloc, out)?;
+    put_pieces(alloc, out)?;
     put_shepherds(alloc, out)?;
     put_client(alloc, out)
 }

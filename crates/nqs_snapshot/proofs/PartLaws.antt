@@ -27,7 +27,7 @@ use Rattle.nqs_records.proofs.IsRead.{IsRead}
 use Rattle.nqs_records.proofs.Numbers.{u8_read, u16_read, u64_read}
 use Rattle.nqs_records.proofs.Named.{bool_read, name_read, path_read}
 use Rattle.nqs_records.proofs.Chains.{Found, both_read, mapped_read, mapped_where, within_read, last_read, opt_read, counted_read}
-use Rattle.nqs_records.proofs.PartLaws.{host_law, id_law, extent_law, job_law, priority_fits, hops_fit, two_fit}
+use Rattle.nqs_records.proofs.PartLaws.{host_law, id_law, script_law, output_law, job_law, priority_fits, hops_fit, two_fit}
 use Rattle.nqs_snapshot.specs.declared.read_queues.Settings.{Settings}
 use Rattle.nqs_snapshot.specs.declared.read_requests.Course.{Course}
 use Rattle.nqs_snapshot.specs.Spelling.{many_field, kind_number, hold_number, state_number, phase_number, access_field, limits_field, dest_field}
@@ -286,7 +286,7 @@ row_law =
     (λ v is. (is.0, is.1.0, is.1.1.0, is.1.1.1.0, is.1.1.1.1))
     (λ r is. (is.0, (is.1, (is.2, (is.3, is.4)))))
     (λ v. refl)
-    (both_read id_law λ _ _. both_read job_law λ _ _. both_read course_law λ _ _. both_read (many_law refused_law) λ _ _. last_read extent_law)
+    (both_read id_law λ _ _. both_read job_law λ _ _. both_read course_law λ _ _. both_read (many_law refused_law) λ _ _. last_read script_law)
 
 -- ---- dealings with other hosts, and files
 
@@ -379,11 +379,11 @@ stage_law =
     mapped_read IsStage stage_field (λ v. record { peer = v.0; number = v.1.0; path = v.1.1.0; bytes = v.1.1.1 })
     (λ t. (t.peer, (t.number, (t.path, t.bytes))))
     (λ t. refl) (λ v is. (is.0, is.1.0, is.1.1.0, is.1.1.1)) (λ t is. (is.0, (is.1, (is.2, is.3)))) (λ v. refl)
-    (both_read host_law λ _ _. both_read u64_read λ _ _. both_read path_read λ _ _. last_read extent_law)
+    (both_read host_law λ _ _. both_read u64_read λ _ _. both_read path_read λ _ _. last_read output_law)
 
 pub file_law : IsRead IsFile file_field file_at
 unfolding file_at file_field
 file_law =
     mapped_read IsFile file_field (λ v. record { number = v.0; path = v.1.0; bytes = v.1.1 }) (λ f. (f.number, (f.path, f.bytes)))
     (λ f. refl) (λ v is. (is.0, is.1.0, is.1.1)) (λ f is. (is.0, (is.1, is.2))) (λ v. refl)
-    (both_read u64_read λ _ _. both_read path_read λ _ _. last_read extent_law)
+    (both_read u64_read λ _ _. both_read path_read λ _ _. last_read output_law)

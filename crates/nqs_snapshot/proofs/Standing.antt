@@ -7,6 +7,7 @@ use Rattle.std.specs.List.{list_all, AllByRecursion}
 use Rattle.nqs_base.specs.declared.extent.Extent.{Extent}
 use Rattle.nqs_base.specs.Path.{is_path}
 use Rattle.nqs_base.proofs.Plain.{all_pass, all_weaker}
+use Rattle.nqs_types.specs.Scripts.{longest_script}
 use Rattle.nqs_types.specs.declared.ids.Dest.{Dest}
 use Rattle.nqs_types.specs.declared.ids.HostId.{HostId}
 use Rattle.nqs_types.specs.declared.ids.RequestId.{RequestId}
@@ -80,7 +81,7 @@ module _ (s : State Extent) (h : IsInOrder s) where
   refused_stands : (r : Refused) → IsTypedRefused r → is_refused_right s r ≡ true → IsRefused r
   refused_stands r typed is = ((typed.0, host_below s r.dest.host h.site is), typed.1)
 
-  row_stands : (r : Row Extent) → IsTypedRow r → is_row_right s r ≡ true → nat_le r.script.length 32768 ≡ true → IsRow r
+  row_stands : (r : Row Extent) → IsTypedRow r → is_row_right s r ≡ true → nat_le r.script.length longest_script ≡ true → IsRow r
   row_stands r typed is short =
       let k = row_is s r is in (
         id_stands r.id k.id,
@@ -95,7 +96,7 @@ module _ (s : State Extent) (h : IsInOrder s) where
       let k = hand_is s x is in
       (peer_stands x.peer (is_hand_given x.number) k.given, typed.0, id_stands x.id k.id, typed.1, typed.2)
 
-  promise_stands : (p : Promise Extent) → IsTypedPromise p → is_promise_right s p ≡ true → nat_le p.row.script.length 32768 ≡ true → IsPromise p
+  promise_stands : (p : Promise Extent) → IsTypedPromise p → is_promise_right s p ≡ true → nat_le p.row.script.length longest_script ≡ true → IsPromise p
   promise_stands p typed is short =
       let k = promise_is s p is in
       (peer_stands p.peer (is_open_number p.number) k.opens, typed.0, row_stands p.row typed.1 k.row short)
@@ -111,8 +112,8 @@ module _ (s : State Extent) (h : IsInOrder s) where
 
   pub in_order_stands : IsTyped s → HasShortParts s → MayStand s
   in_order_stands typed short =
-      let parts = each (list_all (λ (r : Row Extent). nat_le r.script.length 32768) s.rows) (
-      list_all (λ (p : Promise Extent). nat_le p.row.script.length 32768) s.promises
+      let parts = each (list_all (λ (r : Row Extent). nat_le r.script.length longest_script) s.rows) (
+      list_all (λ (p : Promise Extent). nat_le p.row.script.length longest_script) s.promises
       ∷ list_all (λ (t : Stage Extent). nat_le t.bytes.length 32768) s.stages
       ∷ list_all (λ (f : FileOut Extent). nat_le f.bytes.length 32768) s.files ∷ []
       ) short in (
@@ -124,9 +125,9 @@ module _ (s : State Extent) (h : IsInOrder s) where
           typed.0.3,
         ),
         (
-          many_both IsTypedRow IsRow (is_row_right s) (λ (r : Row Extent). nat_le r.script.length 32768) row_stands s.rows typed.1.0 h.rows parts.0,
+          many_both IsTypedRow IsRow (is_row_right s) (λ (r : Row Extent). nat_le r.script.length longest_script) row_stands s.rows typed.1.0 h.rows parts.0,
           many_right IsTypedHand IsHand (is_hand_right s) hand_stands s.hands typed.1.1 h.hands,
-          many_both IsTypedPromise IsPromise (is_promise_right s) (λ (p : Promise Extent). nat_le p.row.script.length 32768) promise_stands s.promises
+          many_both IsTypedPromise IsPromise (is_promise_right s) (λ (p : Promise Extent). nat_le p.row.script.length longest_script) promise_stands s.promises
               typed.1.2 h.promises parts.1.0,
         ),
         typed.2.0,
@@ -144,14 +145,14 @@ module _ (s : State Extent) (h : IsInOrder s) where
 -- what has a field is short
 
 pub stands_short : (s : State Extent) → MayStand s → HasShortParts s
-stands_short s h = chained (list_all (λ (r : Row Extent). nat_le r.script.length 32768) s.rows) (
-    list_all (λ (p : Promise Extent). nat_le p.row.script.length 32768) s.promises
+stands_short s h = chained (list_all (λ (r : Row Extent). nat_le r.script.length longest_script) s.rows) (
+    list_all (λ (p : Promise Extent). nat_le p.row.script.length longest_script) s.promises
     ∷ list_all (λ (t : Stage Extent). nat_le t.bytes.length 32768) s.stages
     ∷ list_all (λ (f : FileOut Extent). nat_le f.bytes.length 32768) s.files ∷ []
     ) (
-      all_pass IsRow (λ (r : Row Extent). nat_le r.script.length 32768) (λ r k. k.4.1) s.rows h.1.0.1,
+      all_pass IsRow (λ (r : Row Extent). nat_le r.script.length longest_script) (λ r k. k.4.1) s.rows h.1.0.1,
       (
-        all_pass IsPromise (λ (p : Promise Extent). nat_le p.row.script.length 32768) (λ p k. k.2.4.1) s.promises h.1.2.1,
+        all_pass IsPromise (λ (p : Promise Extent). nat_le p.row.script.length longest_script) (λ p k. k.2.4.1) s.promises h.1.2.1,
         (
           all_pass IsStage (λ (t : Stage Extent). nat_le t.bytes.length 32768) (λ t k. k.3.1) s.stages h.3.0.1,
           (all_pass IsFile (λ (f : FileOut Extent). nat_le f.bytes.length 32768) (λ f k. k.2.1) s.files h.3.1.1, tt),

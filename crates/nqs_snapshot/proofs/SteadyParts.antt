@@ -83,7 +83,7 @@ unfolding row_at
 row_steady =
     mapped_steady _ _
     (both_steady _ _ id_steady λ _. both_steady _ _ job_steady λ _. both_steady _ _ course_steady λ _. both_steady _ _ (many_steady _ refused_steady) λ _.
-    extent_steady)
+    extent_steady _)
 
 hand_steady : IsSteady hand_at
 unfolding hand_at
@@ -111,11 +111,11 @@ old_peer_steady =
 
 stage_steady : IsSteady stage_at
 unfolding stage_at
-stage_steady = mapped_steady _ _ (both_steady _ _ host_steady λ _. both_steady _ _ u64_steady λ _. both_steady _ _ path_steady λ _. extent_steady)
+stage_steady = mapped_steady _ _ (both_steady _ _ host_steady λ _. both_steady _ _ u64_steady λ _. both_steady _ _ path_steady λ _. extent_steady _)
 
 file_steady : IsSteady file_at
 unfolding file_at
-file_steady = mapped_steady _ _ (both_steady _ _ u64_steady λ _. both_steady _ _ path_steady λ _. extent_steady)
+file_steady = mapped_steady _ _ (both_steady _ _ u64_steady λ _. both_steady _ _ path_steady λ _. extent_steady _)
 
 site_steady : IsSteady site_at
 unfolding site_at

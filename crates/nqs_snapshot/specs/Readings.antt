@@ -28,7 +28,7 @@ use Rattle.nqs_types.specs.declared.queue.ComplexDef.{ComplexDef}
 use Rattle.nqs_types.specs.declared.queue.DeviceDef.{DeviceDef}
 use Rattle.nqs_records.specs.Reading.{Reading, mapped, both, within, counted}
 use Rattle.nqs_records.specs.Fields.{u8_at, u16_at, u64_at, bool_at, opt_at, name_at, path_at}
-use Rattle.nqs_records.specs.Parts.{host_at, id_at, extent_at, job_at}
+use Rattle.nqs_records.specs.Parts.{host_at, id_at, script_at, output_at, job_at}
 use Rattle.nqs_records.specs.Values.{is_at_most}
 use Rattle.nqs_snapshot.specs.Values.{floor_below, alone_above}
 use Rattle.nqs_snapshot.specs.declared.read_queues.Settings.{Settings}
@@ -203,7 +203,7 @@ row_of id job c refused script = record {
 -- a request: its job, where it stands, the destinations that refused it, and where its script is
 unfoldable pub row_at : Reading (Row Extent)
 row_at = mapped (λ v. row_of v.0 v.1.0 v.1.1.0 v.1.1.1.0 v.1.1.1.1) (
-    both id_at λ _. both job_at λ _. both course_at λ _. both (many_at refused_at) λ _. extent_at
+    both id_at λ _. both job_at λ _. both course_at λ _. both (many_at refused_at) λ _. script_at
     )
 
 -- ---- dealings with other hosts, and files
@@ -248,8 +248,8 @@ old_peer_at = mapped renewed (both u64_at λ _. both u64_at λ _. both u64_at λ
 unfoldable pub stage_at : Reading (Stage Extent)
 stage_at =
     mapped (λ v. record { peer = v.0; number = v.1.0; path = v.1.1.0; bytes = v.1.1.1 })
-    (both host_at λ _. both u64_at λ _. both path_at λ _. extent_at)
+    (both host_at λ _. both u64_at λ _. both path_at λ _. output_at)
 
 -- an output that is to be a file of this host, and where its bytes are
 unfoldable pub file_at : Reading (FileOut Extent)
-file_at = mapped (λ v. record { number = v.0; path = v.1.0; bytes = v.1.1 }) (both u64_at λ _. both path_at λ _. extent_at)
+file_at = mapped (λ v. record { number = v.0; path = v.1.0; bytes = v.1.1 }) (both u64_at λ _. both path_at λ _. output_at)

@@ -42,7 +42,7 @@ is_consistent s =
 unfoldable pub is_sound : State Extent → Bool
 is_sound s = are_keys_distinct s && (is_right s && is_consistent s)
 
--- each script and output of a state has at most 32,768 bytes
+-- each script of a state has at most 1,048,576 bytes, each output at most 32,768
 abbrev pub HasShortParts : State Extent → Type 0
 HasShortParts s = are_parts_short (λ (x : Extent). x.length) s ≡ true
 

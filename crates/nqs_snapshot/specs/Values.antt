@@ -19,7 +19,7 @@ use Rattle.nqs_types.specs.declared.queue.ComplexDef.{ComplexDef}
 use Rattle.nqs_types.specs.declared.queue.DeviceDef.{DeviceDef}
 use Rattle.nqs_state.specs.State.{State}
 use Rattle.nqs_snapshot.specs.Spelling.{closed_up_to}
-use Rattle.nqs_records.specs.Values.{is_at_most, IsU8, IsU16, IsU32, IsU64, IsAny, IsOpt, IsList, IsHost, IsId, IsExtent, IsJob}
+use Rattle.nqs_records.specs.Values.{is_at_most, IsU8, IsU16, IsU32, IsU64, IsAny, IsOpt, IsList, IsHost, IsId, IsScript, IsOutput, IsJob}
 
 -- as many values as a number of 64 bits counts
 abbrev pub IsMany : {A : Type 0} → (A → Type 0) → List A → Type 0
@@ -65,7 +65,7 @@ IsCourse r =
 
 -- a request whose fields are within their limits
 abbrev pub IsRow : Row Extent → Type 0
-IsRow r = IsId r.id × IsJob r.job × IsCourse r × IsMany IsRefused r.refused × IsExtent r.script
+IsRow r = IsId r.id × IsJob r.job × IsCourse r × IsMany IsRefused r.refused × IsScript r.script
 
 -- a handover of a request to a host
 abbrev pub IsHand : Hand → Type 0
@@ -98,11 +98,11 @@ IsOldPeer p = IsU64 p.next × IsClosedUpTo p (closed_up_to p.closed) × IsU64 p.
 
 -- an output on its way to a path of a host
 abbrev pub IsStage : Stage Extent → Type 0
-IsStage t = IsHost t.peer × IsU64 t.number × IsPath t.path × IsExtent t.bytes
+IsStage t = IsHost t.peer × IsU64 t.number × IsPath t.path × IsOutput t.bytes
 
 -- an output that is to be written to a path
 abbrev pub IsFile : FileOut Extent → Type 0
-IsFile f = IsU64 f.number × IsPath f.path × IsExtent f.bytes
+IsFile f = IsU64 f.number × IsPath f.path × IsOutput f.bytes
 
 -- the values of the first part
 abbrev pub MayStandSite : State Extent → Type 0

@@ -9,7 +9,7 @@ ghost use Rattle.nqs_snapshot.specs.Values.{alone_above};
 use crate::lists::{InOldSnapshot, InSnapshot, read_list};
 use nqs_base::ListOf;
 use nqs_records::{
-    Read, RecordFault, read_extent, read_host, read_id, read_name, read_path, read_u8_at_most,
+    Read, RecordFault, read_host, read_id, read_name, read_output, read_path, read_u8_at_most,
     read_u64,
 };
 use nqs_types::{FileOut, Hand, NumberList, Peer, Phase, Promise, Row, Stage};
@@ -142,7 +142,7 @@ impl Read<InSnapshot> for Stage {
         let (peer, place) = read_host(bytes, place)?;
         let (number, place) = read_u64(bytes, place)?;
         let (path, place) = read_path(alloc, bytes, place)?;
-        let (extent, place) = read_extent(bytes, place)?;
+        let (extent, place) = read_output(bytes, place)?;
         let stage = Stage {
             peer,
             number,
@@ -160,7 +160,7 @@ impl Read<InSnapshot> for FileOut {
     fn read(alloc: Global, bytes: &[u8], place: u64) -> Result<(FileOut, u64), RecordFault> {
         let (number, place) = read_u64(bytes, place)?;
         let (path, place) = read_path(alloc, bytes, place)?;
-        let (extent, place) = read_extent(bytes, place)?;
+        let (extent, place) = read_output(bytes, place)?;
         let file = FileOut {
             number,
             path,

@@ -8,7 +8,7 @@ use crate::lists::{InSnapshot, read_list};
 use crate::read_queues::read_dest;
 use nqs_base::Name;
 use nqs_records::{
-    Read, RecordFault, read_bool, read_extent, read_id, read_job, read_name, read_opt_name,
+    Read, RecordFault, read_bool, read_id, read_job, read_name, read_opt_name, read_script,
     read_u8, read_u8_at_most, read_u16, read_u64,
 };
 use nqs_types::{Hold, Refused, Row, RowState};
@@ -111,7 +111,7 @@ impl Read<InSnapshot> for Row {
         let (job, place) = read_job(alloc, bytes, place)?;
         let (course, place) = read_course(bytes, place)?;
         let (refused, place) = read_list(alloc, bytes, place)?;
-        let (script, place) = read_extent(bytes, place)?;
+        let (script, place) = read_script(bytes, place)?;
         let row = Row {
             id,
             job,

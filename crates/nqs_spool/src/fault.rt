@@ -10,7 +10,7 @@ use thiserror::Error;
 /// Why a call of the spool failed.
 #[derive(Debug, PartialEq, Eq, Error, Drop)]
 pub enum SpoolFault {
-    /// The bytes are more than 32,768. Nothing was done.
+    /// The bytes are more than 1,048,576. Nothing was done.
     #[error("the bytes are too long for the spool")]
     TooLong,
     /// A call of the disk failed. Its live extents are as they were; the spool is to be closed.

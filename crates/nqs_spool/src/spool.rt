@@ -4,6 +4,7 @@ ghost use Rattle.std.specs.Prelude.{IfErr, MatchResult, length, vec_capacity};
 ghost use Rattle.std.specs.List.{AllByRecursion};
 ghost use Rattle.nqs_base.specs.declared.extent.Extent.{Extent};
 ghost use Rattle.nqs_base.specs.Want.{want};
+ghost use Rattle.nqs_types.specs.Scripts.{longest_script};
 ghost use Rattle.nqs_outside.specs.Causes.{Rose};
 ghost use Rattle.nqs_outside.specs.Reads.{FailedToRead, OnlyReads};
 ghost use Rattle.nqs_outside.specs.History.{Call, content, IsQuiet, extended, moment, EachSince, StopsShort, IsExact, IsWhole};
@@ -16,9 +17,11 @@ use crate::live::LiveExtents;
 use crate::write::{append_read, write_through};
 use nqs_base::{Extent, Memory};
 use nqs_outside::{Disk, Failed, Fused};
+use nqs_types::LONGEST_SCRIPT;
 use std::alloc::Global;
 
-const LONGEST: usize = 32_768;
+// How many bytes a script has at most, and so what is put.
+const LONGEST: usize = LONGEST_SCRIPT as usize;
 
 /// Keeps scripts and outputs of requests, each in a range of the bytes of one disk. No byte is in
 /// two live ranges, so a write changes no live range, whenever it stops.
@@ -88,12 +91,12 @@ impl<D: Disk> Spool<D> {
         Ok(self.disk.len()?)
     }
 
-    /// Writes the bytes, at most 32,768, at the least place where they meet no live extent, and
+    /// Writes the bytes, at most 1,048,576, at the least place where they meet no live extent, and
     /// makes their extent live. They are on the disk before the answer. No bytes make no call of
     /// the disk and get place 0. After `Disk` the spool is to be closed; the live extents keep
     /// their bytes.
     pub fn put(&mut self, bytes: &[u8]) -> Result<Extent, SpoolFault>
-        ensures too_long { IsErrOf result SpoolFault.TooLong ↔ (32768 < length bytes.now) }
+        ensures too_long { IsErrOf result SpoolFault.TooLong ↔ (longest_script < length bytes.now) }
         ensures disk { IsErrOf result SpoolFault.Disk → Rose (D.faults (disk_of self.old)) (D.faults (disk_of self.new)) }
         ensures memory { IsErrOf result (SpoolFault.Memory want) → room_of self.old ≡ 0 }
         ensures room { room_of self.old ≤ room_of self.new + 1 }
@@ -120,7 +123,7 @@ impl<D: Disk> Spool<D> {
             × StopsShort (put_calls (place_for self.old bytes.now) bytes.now) calls }
 
         // Which of them fails is the disk's to say, unless it is starved.
-        ensures exact { IsTrue D.tells → length bytes.now ≤ 32768 → (IsErrOf result (SpoolFault.Memory want) → ⊥)
+        ensures exact { IsTrue D.tells → length bytes.now ≤ longest_script → (IsErrOf result (SpoolFault.Memory want) → ⊥)
             → IsExact (D.fails (disk_of self.old)) (D.starved (disk_of self.old)) (D.starved (disk_of self.new)) (history_of self.old) (history_of self.new)
             (put_calls (place_for self.old bytes.now) bytes.now) }
         // At Ok neither call was to fail.

@@ -63,7 +63,7 @@ fn set_one(disk: &mut MemDisk, alone: bool, call: u64)
     }
 }
 
-fn set(disks: &mut Disks<MemDisk>, which: Which, alone: bool, call: u64)
+pub(crate) fn set(disks: &mut Disks<MemDisk>, which: Which, alone: bool, call: u64)
     ensures { (disk : OneOf) → history_of (disk_at disk disks.new) ≡ history_of (disk_at disk disks.old) }
 {
     match which {

@@ -1,5 +1,5 @@
-//! Disks of the version before, each byte by hand: a journal that begins with a snapshot of version
-//! 1 is read and gone on with, and the next checkpoint carries the host over to version 2.
+//! Disks of the version before, each byte by hand: a journal of version 1, with and without a
+//! snapshot, is read and gone on with, and the first change carries the host over to version 2.
 
 ghost use Rattle.std.specs.Prelude.{◌≡◌};
 ghost use Rattle.nqs_types.specs.declared.world.Which.{Which as OneOf};
@@ -7,7 +7,7 @@ ghost use Rattle.nqs_outside.specs.History.{IsQuiet};
 ghost use Rattle.nqs_disk.specs.MemDisk.{history_of};
 ghost use Rattle.nqs_store.specs.Disks.{disk_at};
 
-use crate::failures::torn;
+use crate::failures::{set, torn};
 use nqs_base::Tear;
 use nqs_disk::MemDisk;
 use nqs_node::Node;
@@ -222,10 +222,10 @@ fn holds(alloc: Global, disk: &mut MemDisk, wanted: &[u8]) -> Result<bool, Fail>
 }
 
 #[test]
-fn a_checkpoint_carries_over(rt: HostRuntime) -> Result<(), Fail> {
+fn a_boot_carries_over(rt: HostRuntime) -> Result<(), Fail> {
     let alloc = rt.alloc();
     let parts = [OLD_FRONT, BEFORE_PEERS, OLD_PEERS, BEHIND_PEERS];
-    let bytes = text(alloc, &parts, 4096)?;
+    let bytes = text(alloc, &parts, 0)?;
     let Some(disks) = disks_with(alloc, &bytes) else {
         return Err("disks")?;
     };
@@ -237,5 +237,90 @@ fn a_checkpoint_carries_over(rt: HostRuntime) -> Result<(), Fail> {
     let written = holds(alloc, &mut disks.second, &carried)?;
     let again = read(alloc, &mut disks);
     assert_eq!(rt; (named, written, again), (true, true, Ok(FIRST)));
+    Ok(())
+}
+
+/// A host as it was formatted before version 2: alpha, alone at its site.
+const FORMATTED: &[u8] = b"NQS-JOURNAL-v1\n\n\x01\0\0\0\x09\x01\x00\x01\x05alpha";
+
+/// What it tells.
+const ALONE: Told = (Some((0, 0, None)), None, [false; 2], 0, 0);
+
+// Whether the disk begins so.
+fn begins(alloc: Global, disk: &mut MemDisk, wanted: &[u8]) -> Result<bool, Fail> {
+    let mut bytes = vec![in alloc; 0u8; 1024]?;
+    let count = disk.read_at(0, &mut bytes)?;
+    Ok(count >= wanted.len() && &bytes[..wanted.len().min(count)] == wanted)
+}
+
+#[test]
+fn a_boot_carries_a_formatted_host_over(rt: HostRuntime) -> Result<(), Fail> {
+    let alloc = rt.alloc();
+    let bytes = text(alloc, &[FORMATTED], 0)?;
+    let Some(mut disks) = disks_with(alloc, &bytes) else {
+        return Err("disks")?;
+    };
+    let before = read(alloc, &mut disks);
+    let Some(mut disks) = booted_anew(alloc, disks) else {
+        return Err("boot")?;
+    };
+    let named = holds(alloc, &mut disks.root, b"\x01")?;
+    let carried = begins(alloc, &mut disks.second, b"NQS-SNAPSHOT-v2\n")?;
+    let left = begins(alloc, &mut disks.first, b"NQS-JOURNAL-v1\n")?;
+    let after = read(alloc, &mut disks);
+    assert_eq!(rt; [named, carried, left], [true; 3]);
+    assert_eq!(rt; (before, after), (Ok(ALONE), Ok(ALONE)));
+    Ok(())
+}
+
+// What disks tell after a boot of which this call of this disk and each later one failed, and a
+// stop; and after another boot.
+fn stopped(
+    alloc: Global,
+    which: Which,
+    call: u64,
+    tear: Tear,
+) -> Result<[Result<Told, Option<u64>>; 2], Fail> {
+    let bytes = text(alloc, &[FORMATTED], 0)?;
+    let Some(disks) = disks_with(alloc, &bytes) else {
+        return Err("disks")?;
+    };
+    let mut disks = torn(disks, Tear::New)?;
+    set(&mut disks, which, false, call);
+    let mut out = Vec::new(alloc);
+    let disks = match Node::boot(alloc, disks, &mut out) {
+        Ok(_) => return Err("booted")?,
+        Err((_, disks)) => disks,
+    };
+    let mut disks = torn(disks, tear)?;
+    let then = read(alloc, &mut disks);
+    let Some(mut disks) = booted_anew(alloc, disks) else {
+        return Err("boot")?;
+    };
+    Ok([then, read(alloc, &mut disks)])
+}
+
+// The calls of the first change of a host that is carried over: two of the other journal, two of
+// the root, and four of its record.
+static CALLS: [(Which, u64); 8] = [
+    (Which::Second, 1),
+    (Which::Second, 2),
+    (Which::Root, 1),
+    (Which::Root, 2),
+    (Which::Second, 3),
+    (Which::Second, 4),
+    (Which::Second, 5),
+    (Which::Second, 6),
+];
+
+#[test]
+fn a_stop_of_that_boot_changes_nothing(rt: HostRuntime) -> Result<(), Fail> {
+    let tears = [Tear::Old, Tear::New, Tear::Mixed(2), Tear::Mixed(0x5555)];
+    for (which, call) in &CALLS {
+        for tear in &tears {
+            let told = stopped(rt.alloc(), *which, *call, *tear)?;
+            assert_eq!(rt; told, [Ok(ALONE), Ok(ALONE)]);
+        }
+    }
     Ok(())
 }

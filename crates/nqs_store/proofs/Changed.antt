@@ -17,7 +17,7 @@ use Rattle.nqs_outside.specs.declared.disk.Disk as disk
 use Rattle.nqs_spool.specs.Spooled as spool
 use Rattle.nqs_spool.specs.declared.spool.Spool.{Spool as SpoolOf}
 use Rattle.nqs_journal.specs.Text.{StandsAfter}
-use Rattle.nqs_journal.specs.Either.{StandsBy, front_of}
+use Rattle.nqs_journal.specs.Either.{StandsBy, front_of, version_of}
 use Rattle.nqs_journal.specs.Open as journal
 use Rattle.nqs_journal.specs.Plan.{append_calls}
 use Rattle.nqs_journal.specs.Gate.{IsAtGate}
@@ -154,10 +154,10 @@ module _ {D : Type 0} {g : disk.Ghosts D} (old now : Store D g) (puts : List (Li
         (moments_weaker o (on Spool (puts_calls places puts)) _ _ (λ images one. inl one)
         (put_moments yes old host is_told (spool.history_of mid) (puts_calls places puts) (done.are_put.made yes) (is_put is_told).kept))
         (append_moments yes old host is_told (is_put is_told) (n x) calls (did_journal calls did)
-        (subst (λ h. EachSince (moment h) (n x) (journal.BeforeOrAfter (front_of is_told.version is_told.snapshot) is_told.payloads text)) (sym journal_same)
+        (subst (λ h. EachSince (moment h) (n x) (journal.BeforeOrAfter (front_of is_told.form is_told.snapshot) is_told.payloads text)) (sym journal_same)
         (subst (λ h. EachSince (moment (journal.history_of (journal_in old.on_second old))) h
-        (journal.BeforeOrAfter (front_of is_told.version is_told.snapshot) is_told.payloads text)) (sym journal_now)
-        (any (front_of is_told.version is_told.snapshot) is_told.payloads is_told.journal)))))
+        (journal.BeforeOrAfter (front_of is_told.form is_told.snapshot) is_told.payloads text)) (sym journal_now)
+        (any (front_of is_told.form is_told.snapshot) is_told.payloads is_told.journal)))))
 
     -- a call of the journal failed
     pub journal_failed : later ≡ applied (filled change puts) (plain_of old host)
@@ -200,16 +200,16 @@ module _ {D : Type 0} {g : disk.Ghosts D} (old now : Store D g) (puts : List (Li
           made = runs_both o w n (on Spool (puts_calls places puts)) (on x plan) puts_run (journal_run plan (whole.made yes));
           at = all_moments plan (whole.made yes) is (whole.any_moment yes);
           one_more = λ is_told same.
-              let opened = whole.acknowledged yes (front_of is_told.version is_told.snapshot) is_told.payloads is_told.journal in
+              let opened = whole.acknowledged yes (front_of is_told.form is_told.snapshot) is_told.payloads is_told.journal in
               record {
-                version = is_told.version;
+                form = is_told.form;
                 snapshot = is_told.snapshot;
                 payloads = is_told.payloads;
                 payload = text;
                 before = λ image leaves. stands_image yes old host is_told image leaves;
                 after = λ image leaves. (
                   is_told.is,
-                  subst (λ b. StandsAfter (front_of is_told.version is_told.snapshot) b (is_told.payloads ++ text ∷ []))
+                  subst (λ b. StandsAfter (front_of is_told.form is_told.snapshot) b (is_told.payloads ++ text ∷ []))
                       (only_image (journal.history_of (journal_in old.on_second now)) image opened.quiet
                       (subst (λ h. IsImage (state h) image) journal_now leaves))
                       opened.stands,
@@ -248,12 +248,12 @@ module _ {D : Type 0} {g : disk.Ghosts D} (old now : Store D g) (puts : List (Li
       keeps_now : (image : List ℕ) → IsImage (state (n Spool)) image → Keeps host (content (o Spool)) image
       keeps_now image leaves = kept (moment (n Spool)) image grown (omega arith) (last_image (n Spool) image leaves)
 
-      before_both : (images : Which → List ℕ) → is_second (images Root) ≡ old.on_second → StandsBy (images x) is_told.version is_told.snapshot is_told.payloads
+      before_both : (images : Which → List ℕ) → is_second (images Root) ≡ old.on_second → StandsBy (images x) is_told.form is_told.snapshot is_told.payloads
           → IsImage (state (n Spool)) (images Spool) → IsTold images (plain_of old host) × IsActive images a
       before_both images named stands leaves =
           (told_before yes old host is_told images named stands (keeps_now (images Spool) leaves), active_image old host is_told images named stands)
 
-      told_still : ((image : List ℕ) → IsImage (state (n x)) image → StandsBy image is_told.version is_told.snapshot is_told.payloads)
+      told_still : ((image : List ℕ) → IsImage (state (n x)) image → StandsBy image is_told.form is_told.snapshot is_told.payloads)
           → LeavesHost n (plain_of old host) a
       told_still stands = λ images leaves. before_both images (named_still (images Root) (leaves Root)) (stands (images x) (leaves x)) (leaves Spool)
 
@@ -279,12 +279,12 @@ module _ {D : Type 0} {g : disk.Ghosts D} (old now : Store D g) (puts : List (Li
       pub cut_record : (text : List ℕ) → AreClear (fails_of old Spool) (moment (o Spool)) (spool_calls puts)
           → HasAppendedShort (journal_in old.on_second old) (journal_in old.on_second now) text
           → ((images : Which → List ℕ) → is_second (images Root) ≡ old.on_second
-          → StandsBy (images x) is_told.version is_told.snapshot (is_told.payloads ++ text ∷ []) → IsImage (state (n Spool)) (images Spool)
+          → StandsBy (images x) is_told.form is_told.snapshot (is_told.payloads ++ text ∷ []) → IsImage (state (n Spool)) (images Spool)
           → IsTold images later)
           → IsTrue (is_starved now x) ⊎ CutRecord a (fails_of old) puts o n (plain_of old host) later
       cut_record text clear short told_later =
           let gate = journal.gate_of (journal_in old.on_second old) in
-          let front = front_of is_told.version is_told.snapshot in
+          let front = front_of is_told.form is_told.snapshot in
           let broken = short.broken yes in
           elim (cut_short (fails_of old x) (is_starved old x) (is_starved now x) (o x) (n x) (append_calls gate text) broken.0
           (refl, (refl, (refl, (refl, tt)))) (made broken.0 broken.1) broken.2 exact) [
@@ -328,8 +328,8 @@ module _ {D : Type 0} {g : disk.Ghosts D} (old now : Store D g) (puts : List (Li
           size : (calls : List Call) → n' ≡ extended o' calls → moment n' ≡ moment o' + length calls
           size calls did = ap moment did ∙ length-append (o'.calls) calls
 
-          decided : (gate : ℕ) → IsAtGate (state (n x)) gate (λ image. StandsAfter (front_of is_told.version is_told.snapshot) image is_told.payloads)
-              (λ image. StandsAfter (front_of is_told.version is_told.snapshot) image (is_told.payloads ++ text ∷ []))
+          decided : (gate : ℕ) → IsAtGate (state (n x)) gate (λ image. StandsAfter (front_of is_told.form is_told.snapshot) image is_told.payloads)
+              (λ image. StandsAfter (front_of is_told.form is_told.snapshot) image (is_told.payloads ++ text ∷ []))
               → IsAtGate (state (n x)) gate
               (λ image. (images : Which → List ℕ) → AreImages n images x image → IsTold images (plain_of old host) × IsActive images a)
               (λ image. (images : Which → List ℕ) → AreImages n images x image → IsTold images later × IsActive images (recorded a))
@@ -340,20 +340,21 @@ module _ {D : Type 0} {g : disk.Ghosts D} (old now : Store D g) (puts : List (Li
             shut = at.shut;
             wide = at.wide;
             if_shut = λ image leaves byte images are. before_both images (named_still (images Root) (are.0 Root))
-                (subst (λ b. StandsBy b is_told.version is_told.snapshot is_told.payloads) (sym are.1) (is_told.is, at.if_shut image leaves byte))
+                (subst (λ b. StandsBy b is_told.form is_told.snapshot is_told.payloads) (sym are.1) (is_told.is, at.if_shut image leaves byte))
                 (are.0 Spool);
             if_wide = λ image leaves byte images are.
                 let named = named_still (images Root) (are.0 Root) in
-                let stands = subst (λ b. StandsBy b is_told.version is_told.snapshot (is_told.payloads ++ text ∷ [])) (sym are.1)
+                let stands = subst (λ b. StandsBy b is_told.form is_told.snapshot (is_told.payloads ++ text ∷ [])) (sym are.1)
                 (is_told.is, at.if_wide image leaves byte) in (
                   told_later images named stands (are.0 Spool),
                   record {
                     named = named;
-                    version = is_told.version;
+                    form = is_told.form;
                     snapshot = is_told.snapshot;
                     payloads = is_told.payloads ++ text ∷ [];
                     stands = stands;
                     many = length-append is_told.payloads (text ∷ []) ∙ ap (λ m. m + 1) is_told.many;
+                    old = is_told.old;
                   },
                 );
           }
@@ -381,16 +382,18 @@ module _ {D : Type 0} {g : disk.Ghosts D} (old now : Store D g) where
   -- at the end the store tells the host after the change
   pub tells_later : (host next : Host) (tells : Tells old host) (text : List ℕ) → now.on_second ≡ old.on_second
       → pick (not old.on_second) now.first now.second ≡ pick (not old.on_second) old.first old.second → now.root ≡ old.root
-      → journal.Tells (journal_in old.on_second now) (front_of tells.version tells.snapshot) (tells.payloads ++ text ∷ [])
+      → journal.Tells (journal_in old.on_second now) (front_of tells.form tells.snapshot) (tells.payloads ++ text ∷ [])
       → journal.count_of (journal_in old.on_second now) ≡ journal.count_of (journal_in old.on_second old) + 1
-      → told_by tells.version tells.snapshot (tells.payloads ++ text ∷ []) ≡ Some next → spool.Tells now.spool (live next) → Tells now next
-  tells_later host next tells text on resting root told counted records spooled = record {
-    version = tells.version;
+      → journal.is_old (journal_in old.on_second now) ≡ journal.is_old (journal_in old.on_second old)
+      → told_by (version_of tells.form) tells.snapshot (tells.payloads ++ text ∷ []) ≡ Some next → spool.Tells now.spool (live next) → Tells now next
+  tells_later host next tells text on resting root told counted stays records spooled = record {
+    form = tells.form;
     snapshot = tells.snapshot;
     payloads = tells.payloads ++ text ∷ [];
     is = tells.is;
-    journal = subst (λ b. journal.Tells (journal_in b now) (front_of tells.version tells.snapshot) (tells.payloads ++ text ∷ [])) (sym on) told;
+    journal = subst (λ b. journal.Tells (journal_in b now) (front_of tells.form tells.snapshot) (tells.payloads ++ text ∷ [])) (sym on) told;
     many = length-append tells.payloads (text ∷ []) ∙ ap (λ m. m + 1) tells.many ∙ sym counted ∙ ap (λ b. journal.count_of (journal_in b now)) (sym on);
+    old = ap (λ b. journal.is_old (journal_in b now)) on ∙ stays ∙ tells.old;
     records = records;
     named = ap (λ d. is_second (content (g.history d))) root ∙ tells.named ∙ sym on;
     root = subst (λ d. IsQuiet (g.history d)) (sym root) tells.root;

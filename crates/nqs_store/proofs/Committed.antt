@@ -18,7 +18,7 @@ use Rattle.nqs_spool.proofs.Lists.{has_all, all_has}
 use Rattle.nqs_types.specs.declared.world.Which.{Which}
 use Rattle.nqs_types.specs.declared.world.Which.TheVariants.{Root, Spool}
 use Rattle.nqs_outside.specs.History.{IsImage, IsQuiet, state, extended, Call}
-use Rattle.nqs_journal.specs.Either.{StandsBy, front_of}
+use Rattle.nqs_journal.specs.Either.{StandsBy, front_of, version_of}
 use Rattle.nqs_journal.specs.Open.{BeforeOrAfter}
 use Rattle.nqs_rules.specs.Journals.{is_second, journal_on}
 use Rattle.nqs_rules.specs.Fits.{fits}
@@ -114,7 +114,7 @@ module _ {D : Type 0} {g : disk.Ghosts D} (tells_all : IsTrue g.tells) (old : St
   plain_kept image keeps = plain_same (extent_bytes image) (extent_bytes was) host (λ x has. (keeps x (extent_bytes was x) has (held x has)).same)
 
   pub told_before : (images : Which → List ℕ) → is_second (images Root) ≡ old.on_second
-      → StandsBy (images (journal_on old.on_second)) is_told.version is_told.snapshot is_told.payloads → Keeps host was (images Spool)
+      → StandsBy (images (journal_on old.on_second)) is_told.form is_told.snapshot is_told.payloads → Keeps host was (images Spool)
       → IsTold images (plain_of old host)
   told_before images named stands keeps = record {
     host = host;
@@ -131,8 +131,8 @@ module _ {D : Type 0} {g : disk.Ghosts D} (tells_all : IsTrue g.tells) (old : St
   named_image image leaves = ap is_second (sym (only_image (history_of old Root) image is_told.root leaves)) ∙ is_told.named
 
   pub stands_image : (image : List ℕ) → IsImage (state (history_of old (journal_on old.on_second))) image
-      → StandsBy image is_told.version is_told.snapshot is_told.payloads
-  stands_image image leaves = subst (λ b. StandsBy b is_told.version is_told.snapshot is_told.payloads)
+      → StandsBy image is_told.form is_told.snapshot is_told.payloads
+  stands_image image leaves = subst (λ b. StandsBy b is_told.form is_told.snapshot is_told.payloads)
       (only_image (history_of old (journal_on old.on_second)) image (active_quiet old host is_told) leaves) (active_stands old host is_told)
 
   -- nothing is pending on any disk
@@ -168,8 +168,9 @@ module _ {D : Type 0} {g : disk.Ghosts D} (tells_all : IsTrue g.tells) (old : St
     pub plain_now : map_state (extent_bytes bytes) (applied now host) ≡ applied (filled change puts) (plain_of old host)
     plain_now = applied-map (extent_bytes bytes) now host ∙ (λ j. applied (filled_now j) (plain_kept bytes p.still j))
 
-    pub records_now : told_by is_told.version is_told.snapshot (is_told.payloads ++ text ∷ []) ≡ Some (applied now host)
-    records_now = told_by_more is_told.version is_told.snapshot is_told.payloads host text is_told.records ∙ ap (λ r. read_taken r (Some host)) p.done.read
+    pub records_now : told_by (version_of is_told.form) is_told.snapshot (is_told.payloads ++ text ∷ []) ≡ Some (applied now host)
+    records_now = told_by_more (version_of is_told.form) is_told.snapshot is_told.payloads host text is_told.records
+        ∙ ap (λ r. read_taken r (Some host)) p.done.read
         ∙ taken_some now host fine_now
 
     within_now : AllByRecursion (λ x. past x ≤ length bytes) (live (applied now host))
@@ -182,15 +183,15 @@ module _ {D : Type 0} {g : disk.Ghosts D} (tells_all : IsTrue g.tells) (old : St
     apart_now = account.order.apart (takes_apart account.more (gone now host) account.fewer account.takes put_tells.live.apart)
 
     pub told_after : (images : Which → List ℕ) → is_second (images Root) ≡ old.on_second
-        → StandsBy (images (journal_on old.on_second)) is_told.version is_told.snapshot (is_told.payloads ++ text ∷ []) → images Spool ≡ bytes
+        → StandsBy (images (journal_on old.on_second)) is_told.form is_told.snapshot (is_told.payloads ++ text ∷ []) → images Spool ≡ bytes
         → IsTold images (applied (filled change puts) (plain_of old host))
     told_after images named stands spool = record {
       host = applied now host;
       is = record {
-        version = is_told.version;
+        form = is_told.form;
         snapshot = is_told.snapshot;
         payloads = is_told.payloads ++ text ∷ [];
-        stands = subst (λ b. StandsBy (images (journal_on b)) is_told.version is_told.snapshot (is_told.payloads ++ text ∷ [])) (sym named) stands;
+        stands = subst (λ b. StandsBy (images (journal_on b)) is_told.form is_told.snapshot (is_told.payloads ++ text ∷ [])) (sym named) stands;
         tells = records_now;
         sound = subst (λ b. AreSound (length b) (live (applied now host))) (sym spool) (record { apart = apart_now; within = within_now });
       };
@@ -218,7 +219,7 @@ module _ {D : Type 0} {g : disk.Ghosts D} (tells_all : IsTrue g.tells) (old : St
 
     -- what images of the journal tell, where the spool has the bytes
     pub one_of : (images : Which → List ℕ) → IsImage (state (history_of old Root)) (images Root) → IsImage (state (spool.history_of mid)) (images Spool)
-        → BeforeOrAfter (front_of is_told.version is_told.snapshot) is_told.payloads text (images (journal_on old.on_second))
+        → BeforeOrAfter (front_of is_told.form is_told.snapshot) is_told.payloads text (images (journal_on old.on_second))
         → TellsOneOf (plain_of old host) (applied (filled change puts) (plain_of old host)) images
     one_of images root spool (inl before) = inl (told_before images (named_image (images Root) root) (is_told.is, before)
         (subst (Keeps host was) (sym (spool_image (images Spool) spool)) p.still))
@@ -227,7 +228,7 @@ module _ {D : Type 0} {g : disk.Ghosts D} (tells_all : IsTrue g.tells) (old : St
     -- moments of the append
     pub append_moments : (f' : History) (calls : List Call)
         → f' ≡ extended (with_disk Spool (spool.history_of mid) (history_of old) (journal_on old.on_second)) calls
-        → EachSince (moment (history_of old (journal_on old.on_second))) f' (BeforeOrAfter (front_of is_told.version is_told.snapshot) is_told.payloads text)
+        → EachSince (moment (history_of old (journal_on old.on_second))) f' (BeforeOrAfter (front_of is_told.form is_told.snapshot) is_told.payloads text)
         → Moments (with_disk Spool (spool.history_of mid) (history_of old)) (on (journal_on old.on_second) calls)
         (TellsOneOf (plain_of old host) (applied (filled change puts) (plain_of old host)))
     append_moments f' calls did any =

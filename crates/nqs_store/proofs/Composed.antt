@@ -40,7 +40,7 @@ use Rattle.nqs_store.proofs.Changed.{part_apart}
 use Rattle.nqs_store.proofs.Runs.{stops_before, stops_behind}
 
 -- where no checkpoint is due
-module _ (a : Active) (not_due : is_due a.records ≡ false) where
+module _ (a : Active) (not_due : is_due a.is_old a.records ≡ false) where
   pub here : ready a ≡ a
   here = ap (λ (b : Bool). if b then turned_to a else a) not_due
 
@@ -71,7 +71,7 @@ module _ (a : Active) (not_due : is_due a.records ≡ false) where
       ∙ (let none : moment (old (journal_of a)) + 0 ≡ moment (old (journal_of a)) = omega arith in none)
 
 -- where one is due
-module _ (a : Active) (due : is_due a.records ≡ true) where
+module _ (a : Active) (due : is_due a.is_old a.records ≡ true) where
   pub there : ready a ≡ turned_to a
   there = ap (λ (b : Bool). if b then turned_to a else a) due
 
@@ -152,7 +152,8 @@ module _ {D : Type 0} {g : disk.Ghosts D} where
       }
 
   -- only the calls of the change
-  module _ (old now : Store D g) (puts : List (List ℕ)) (host : Host) (later : Plain) (not_due : is_due (active_of old).records ≡ false) where
+  module _ (old now : Store D g) (puts : List (List ℕ)) (host : Host) (later : Plain)
+      (not_due : is_due (active_of old).is_old (active_of old).records ≡ false) where
     abbrev a : Active
     a = active_of old
 
@@ -225,7 +226,8 @@ module _ {D : Type 0} {g : disk.Ghosts D} where
             (subst (IsCutOn a fails puts (history_of old) (history_of now) before later) is cut)
 
   -- only the calls of a checkpoint, which one of them cut off
-  module _ (old now : Store D g) (puts : List (List ℕ)) (host : Host) (later : Plain) (snapshot : List ℕ) (due : is_due (active_of old).records ≡ true)
+  module _ (old now : Store D g) (puts : List (List ℕ)) (host : Host) (later : Plain) (snapshot : List ℕ)
+      (due : is_due (active_of old).is_old (active_of old).records ≡ true)
       (t : Turning HostStops old now snapshot host) where
     abbrev a' : Active
     a' = active_of old
@@ -279,7 +281,8 @@ module _ {D : Type 0} {g : disk.Ghosts D} where
     turn_cut fails before which (inr cut) = subst (IsCutAt a' fails puts (history_of old) (history_of now) before later) (sym cut.0) (due, cut.1)
 
   -- the calls of a checkpoint, and then those of the change
-  module _ (old mid now : Store D g) (puts : List (List ℕ)) (host : Host) (later : Plain) (snapshot : List ℕ) (due : is_due (active_of old).records ≡ true)
+  module _ (old mid now : Store D g) (puts : List (List ℕ)) (host : Host) (later : Plain) (snapshot : List ℕ)
+      (due : is_due (active_of old).is_old (active_of old).records ≡ true)
       (turned : active_of mid ≡ turned_to (active_of old)) (t : Turning (λ planned run. run ≡ planned) old mid snapshot host) where
     abbrev b : Active
     b = active_of old
@@ -433,7 +436,7 @@ module _ {D : Type 0} {g : disk.Ghosts D} where
 -- The same of a change whose record spells it.
 
 -- where no checkpoint is due
-here_spells : (a : Active) (old now : Which → History) (c : Change (List ℕ)) → is_due a.records ≡ false → SpellsBy (change_calls a) c old now
+here_spells : (a : Active) (old now : Which → History) (c : Change (List ℕ)) → is_due a.is_old a.records ≡ false → SpellsBy (change_calls a) c old now
     → Spells a c old now
 here_spells a old now c not_due s = (
   [],
@@ -446,8 +449,8 @@ here_spells a old now c not_due s = (
 )
 
 -- behind a checkpoint
-there_spells : (a b : Active) (old mid now : Which → History) (c : Change (List ℕ)) (snapshot : List ℕ) → is_due a.records ≡ true → b ≡ turned_to a
-    → Runs old mid (checkpoint_calls a snapshot) → SpellsBy (change_calls b) c mid now → Spells a c old now
+there_spells : (a b : Active) (old mid now : Which → History) (c : Change (List ℕ)) (snapshot : List ℕ) → is_due a.is_old a.records ≡ true
+    → b ≡ turned_to a → Runs old mid (checkpoint_calls a snapshot) → SpellsBy (change_calls b) c mid now → Spells a c old now
 there_spells a b old mid now c snapshot due turned first s = (
   snapshot,
   record {
@@ -462,12 +465,13 @@ there_spells a b old mid now c snapshot due turned first s = (
 )
 
 module _ {D : Type 0} {g : disk.Ghosts D} {E : Type 0} (r : Result (Unit {0}) E) (old now : Store D g) (c : Change (List ℕ)) where
-  pub here_spelled : is_due (active_of old).records ≡ false → OnOk r (SpellsBy (change_calls (active_of old)) c (history_of old) (history_of now))
+  pub here_spelled : is_due (active_of old).is_old (active_of old).records ≡ false
+      → OnOk r (SpellsBy (change_calls (active_of old)) c (history_of old) (history_of now))
       → OnOk r (Spells (active_of old) c (history_of old) (history_of now))
   here_spelled not_due = on_ok_weaker r (here_spells (active_of old) (history_of old) (history_of now) c not_due)
 
-  pub there_spelled : (mid : Store D g) (host : Host) (snapshot : List ℕ) → is_due (active_of old).records ≡ true → active_of mid ≡ turned_to (active_of old)
-      → Turning (λ planned run. run ≡ planned) old mid snapshot host
+  pub there_spelled : (mid : Store D g) (host : Host) (snapshot : List ℕ) → is_due (active_of old).is_old (active_of old).records ≡ true
+      → active_of mid ≡ turned_to (active_of old) → Turning (λ planned run. run ≡ planned) old mid snapshot host
       → OnOk r (SpellsBy (change_calls (active_of mid)) c (history_of mid) (history_of now))
       → OnOk r (Spells (active_of old) c (history_of old) (history_of now))
   there_spelled mid host snapshot due turned t = on_ok_weaker r

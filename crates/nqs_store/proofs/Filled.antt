@@ -1,6 +1,7 @@
 -- A change whose extents were filled in.
-use Rattle.std.proofs.Common.{◌≡◌, ℕ, List, [], ◌∷◌, map, drop, get_or, length, IsTrue, refl, sym, ap, subst, ◌∙◌, arith}
-use Rattle.std.specs.List.{AllByRecursion}
+use Rattle.std.proofs.Common.{◌≡◌, ℕ, ◌≤◌, Bool, true, nat_le, List, [], ◌∷◌, map, drop, get_or, length, IsTrue, refl, sym, ap, subst, ◌∙◌, arith}
+use Rattle.std.specs.List.{AllByRecursion, list_all}
+use Rattle.std.proofs.lemmas.Bool.{and_parts, leb-true}
 use Rattle.std.proofs.lemmas.List.{length-map}
 use Rattle.nqs_state.specs.State.{State}
 use Rattle.nqs_base.specs.declared.extent.Extent.{Extent}
@@ -13,8 +14,10 @@ use Rattle.nqs_types.specs.declared.change.Change.TheVariants.{RefusedLocal, Hel
 use Rattle.nqs_rules.specs.Fits.{fits}
 use Rattle.nqs_rules.specs.Filled.{filled, filled_parts}
 use Rattle.nqs_rules.specs.Stepped.{map_change, map_part, part_bytes, stored_parts, no_extent}
-use Rattle.nqs_records.specs.Values.{IsExtent, IsPart, is_at_most}
+use Rattle.nqs_records.specs.Values.{IsScript, IsOutput, IsPart, is_at_most}
 use Rattle.nqs_records.specs.Changes.{MayStand}
+use Rattle.nqs_types.specs.Scripts.{longest_script}
+use Rattle.nqs_store.specs.Puts.{IsShortPut, AreShortFor, length_of}
 use Rattle.nqs_records.specs.Extents.{first_or, parts_with, with_extents}
 use Rattle.nqs_records.proofs.PutBack.{length-parts_with}
 
@@ -53,11 +56,32 @@ filled_stored [] (put ∷ puts) many = absurd (omega (arith, many))
 filled_stored (part ∷ parts) [] many = absurd (omega (arith, many))
 filled_stored (part ∷ parts) (put ∷ puts) many = ap (λ l. put ∷ l) (filled_stored parts puts (omega (arith, many)))
 
-parts_stand : (parts : List (OutPart Extent)) (xs : List Extent) → AllByRecursion IsPart parts → AllByRecursion IsExtent xs
-    → AllByRecursion IsPart (parts_with parts xs)
-parts_stand [] xs right fine = tt
-parts_stand (part ∷ parts) [] right fine = (right.0, parts_stand parts [] right.1 tt)
-parts_stand (part ∷ parts) (x ∷ xs) right fine = ((right.0.0, fine.0), parts_stand parts xs right.1 fine.1)
+-- a part that is stored is short
+abbrev is_short_part : OutPart (List ℕ) → Bool
+is_short_part part = nat_le (length part.bytes) 32768
+
+-- extents have as many bytes as were put
+abbrev AreLong : List Extent → List (List ℕ) → Type 0
+AreLong xs puts = map length_of xs ≡ map length puts
+
+-- an extent of as many bytes as an output may have
+output_long : (x : Extent) (put : List ℕ) → x.length ≡ length put → IsScript x → nat_le (length put) 32768 ≡ true → IsOutput x
+output_long x put same fine short = (fine.0, subst (λ n. nat_le n 32768 ≡ true) (sym same) short)
+
+none_long : (parts : List (OutPart Extent)) → list_all is_short_part (filled_parts parts []) ≡ true
+none_long [] = refl
+none_long (part ∷ parts) = refl
+
+parts_stand : (parts : List (OutPart Extent)) (xs : List Extent) (puts : List (List ℕ)) → AllByRecursion IsPart parts → AllByRecursion IsScript xs
+    → AreLong xs puts → list_all is_short_part (filled_parts parts puts) ≡ true → AllByRecursion IsPart (parts_with parts xs)
+parts_stand [] xs puts right fine same short = tt
+parts_stand (part ∷ parts) [] puts right fine same short = (right.0, parts_stand parts [] [] right.1 tt refl (none_long parts))
+parts_stand (part ∷ parts) (x ∷ xs) [] right fine same short = absurd (let no : ⊥ = cc in no)
+parts_stand (part ∷ parts) (x ∷ xs) (put ∷ puts) right fine same short =
+    let first : x.length ≡ length put = cc in
+    let later : map length_of xs ≡ map length puts = cc in
+    let both = and_parts (nat_le (length put) 32768) (list_all is_short_part (filled_parts parts puts)) short in
+    ((right.0.0, output_long x put first fine.0 both.0), parts_stand parts xs puts right.1 fine.1 later both.1)
 
 one_stored : (x : Extent) (xs : List Extent) → AsMany xs (x ∷ []) → first_or x xs ∷ [] ≡ xs
 one_stored x [] many = absurd (omega (arith, many))
@@ -69,9 +93,15 @@ one_put [] x many = absurd (omega (arith, many))
 one_put (put ∷ []) x many = refl
 one_put (put ∷ other ∷ puts) x many = absurd (omega (arith, many))
 
-one_stands : (x : Extent) (xs : List Extent) → IsExtent x → AllByRecursion IsExtent xs → IsExtent (first_or x xs)
+one_stands : (x : Extent) (xs : List Extent) → IsScript x → AllByRecursion IsScript xs → IsScript (first_or x xs)
 one_stands x [] right fine = right
 one_stands x (y ∷ xs) right fine = fine.0
+
+output_stands : (x : Extent) (xs : List Extent) (puts : List (List ℕ)) → IsOutput x → AllByRecursion IsScript xs → AreLong xs puts
+    → nat_le (length (get_or puts 0 [])) 32768 ≡ true → IsOutput (first_or x xs)
+output_stands x [] puts right fine same short = right
+output_stands x (y ∷ xs) [] right fine same short = absurd (let no : ⊥ = cc in no)
+output_stands x (y ∷ xs) (put ∷ puts) right fine same short = let first : y.length ≡ length put = cc in output_long y put first fine.0 short
 
 -- none left over where nothing is stored
 no_parts : {A : Type 0} (xs : List A) → AsMany {B = Extent} xs [] → [] ≡ xs
@@ -162,40 +192,71 @@ fits_kept (StageGot peer number path bytes) xs s = refl
 fits_kept (StageGone peer number) xs s = refl
 fits_kept (FileGone file) xs s = refl
 
--- with short extents it may stand in a record
+-- with extents of what was put, which is short, it may stand in a record
 
-pub stands_kept : (change : Change Extent) (xs : List Extent) → MayStand change → AllByRecursion IsExtent xs → MayStand (with_extents change xs)
-stands_kept (Site me site) xs right fine = right
-stands_kept (Submitted queue job script) xs right fine = (right.0, right.1, one_stands script xs right.2 fine)
-stands_kept (Deleted id) xs right fine = right
-stands_kept (Doomed id) xs right fine = right
-stands_kept (Started id device) xs right fine = right
-stands_kept (Ended id parts) xs right fine = (
+pub stands_kept : (change : Change Extent) (xs : List Extent) (puts : List (List ℕ)) → MayStand change → AllByRecursion IsScript xs → AreLong xs puts
+    → AreShortFor change puts → MayStand (with_extents change xs)
+stands_kept (Site me site) xs puts right fine same short = right
+stands_kept (Submitted queue job script) xs puts right fine same short = (right.0, right.1, one_stands script xs right.2 fine)
+stands_kept (Deleted id) xs puts right fine same short = right
+stands_kept (Doomed id) xs puts right fine same short = right
+stands_kept (Started id device) xs puts right fine same short = right
+stands_kept (Ended id parts) xs puts right fine same short = (
   right.0,
   (
     subst (λ n. IsTrue (is_at_most 2 n))
         (sym (length-parts_with parts xs)) right.1.0,
-    parts_stand parts xs right.1.1 fine,
+    parts_stand parts xs puts right.1.1 fine same short,
   ),
 )
-stands_kept (Unlaunched id) xs right fine = right
-stands_kept Boot xs right fine = right
-stands_kept (Edited e) xs right fine = right
-stands_kept (HandOpened peer number id queue since) xs right fine = right
-stands_kept (HandCommitted peer number) xs right fine = right
-stands_kept (HandRefused peer number cause) xs right fine = right
-stands_kept (HandsSilent until hands) xs right fine = right
-stands_kept (HandDone peer number) xs right fine = right
-stands_kept (OldPromised peer number queue c script) xs right fine = (right.0, right.1, right.2, right.3, one_stands script xs right.4 fine)
-stands_kept (Promised peer number low queue c script) xs right fine = (right.0, right.1, right.2, right.3, one_stands script xs right.4 fine)
-stands_kept (Accepted peer number) xs right fine = right
-stands_kept (Dropped peer number) xs right fine = right
-stands_kept (MovedLocal id queue) xs right fine = right
-stands_kept (RefusedLocal id queue cause) xs right fine = right
-stands_kept (HeldFar id) xs right fine = right
-stands_kept (StageGot peer number path bytes) xs right fine = (right.0, right.1, right.2, one_stands bytes xs right.3 fine)
-stands_kept (StageGone peer number) xs right fine = right
-stands_kept (FileGone file) xs right fine = right
+stands_kept (Unlaunched id) xs puts right fine same short = right
+stands_kept Boot xs puts right fine same short = right
+stands_kept (Edited e) xs puts right fine same short = right
+stands_kept (HandOpened peer number id queue since) xs puts right fine same short = right
+stands_kept (HandCommitted peer number) xs puts right fine same short = right
+stands_kept (HandRefused peer number cause) xs puts right fine same short = right
+stands_kept (HandsSilent until hands) xs puts right fine same short = right
+stands_kept (HandDone peer number) xs puts right fine same short = right
+stands_kept (OldPromised peer number queue c script) xs puts right fine same short = (right.0, right.1, right.2, right.3, one_stands script xs right.4 fine)
+stands_kept (Promised peer number low queue c script) xs puts right fine same short = (right.0, right.1, right.2, right.3, one_stands script xs right.4 fine)
+stands_kept (Accepted peer number) xs puts right fine same short = right
+stands_kept (Dropped peer number) xs puts right fine same short = right
+stands_kept (MovedLocal id queue) xs puts right fine same short = right
+stands_kept (RefusedLocal id queue cause) xs puts right fine same short = right
+stands_kept (HeldFar id) xs puts right fine same short = right
+stands_kept (StageGot peer number path bytes) xs puts right fine same short = (right.0, right.1, right.2, output_stands bytes xs puts right.3 fine same short)
+stands_kept (StageGone peer number) xs puts right fine same short = right
+stands_kept (FileGone file) xs puts right fine same short = right
+
+-- what is put is no more than a script may have
+
+one_short : (puts : List (List ℕ)) (most : ℕ) → most ≤ longest_script → length puts ≡ 1 → nat_le (length (get_or puts 0 [])) most ≡ true
+    → AllByRecursion IsShortPut puts
+one_short [] most few many short = tt
+one_short (put ∷ []) most few many short = (let is = leb-true (length put) most short in omega (arith, is, few), tt)
+one_short (put ∷ other ∷ puts) most few many short = absurd (omega (arith, many))
+
+none_short : (puts : List (List ℕ)) → length puts ≡ 0 → AllByRecursion IsShortPut puts
+none_short [] many = tt
+none_short (put ∷ puts) many = absurd (omega (arith, many))
+
+each_short : (parts : List (OutPart Extent)) (puts : List (List ℕ)) → AsMany puts parts → list_all is_short_part (filled_parts parts puts) ≡ true
+    → AllByRecursion IsShortPut puts
+each_short parts [] many short = tt
+each_short [] (put ∷ puts) many short = absurd (omega (arith, many))
+each_short (part ∷ parts) (put ∷ puts) many short =
+    let both = and_parts (nat_le (length put) 32768) (list_all is_short_part (filled_parts parts puts)) short in
+    (let is = leb-true (length put) 32768 both.0 in omega (arith, is), each_short parts puts (omega (arith, many)) both.1)
+
+pub puts_short : (change : Change Extent) (puts : List (List ℕ)) → length puts ≡ length (stored_parts change) → AreShortFor change puts
+    → AllByRecursion IsShortPut puts
+puts_short (Submitted queue job script) puts many short = one_short puts longest_script (omega arith) many short
+puts_short (Ended id parts) puts many short = each_short parts puts (many ∙ length-map parts part_bytes) short
+puts_short (OldPromised peer number queue c script) puts many short = one_short puts longest_script (omega arith) many short
+puts_short (Promised peer number low queue c script) puts many short = one_short puts longest_script (omega arith) many short
+puts_short (StageGot peer number path bytes) puts many short = one_short puts 32768 (omega arith) many short
+puts_short Boot puts many short = none_short puts many
+puts_short change puts many short = none_short puts many
 
 -- its extents are these
 

@@ -58,7 +58,7 @@ module _ {D : Type 0} {g : disk.Ghosts D} {E : Type 0} (r : Result (Unit {0}) E)
   JournalClear store = AreClear (fails_of store (journal_of (active_of store))) (moment (history_of store (journal_of (active_of store)))) 4
 
   -- where no checkpoint is due
-  module _ (not_due : is_due (active_of old).records ≡ false) where
+  module _ (not_due : is_due (active_of old).is_old (active_of old).records ≡ false) where
     pub here_made : OnOk r (Changing (λ planned run. run ≡ planned) old now puts host later) → OnOk r (SpoolClear old) → OnOk r (JournalClear old)
         → OnOk r (IsKept (active_of old) (fails_of old) puts (history_of old) (history_of now))
     here_made = ok_three r (Changing (λ planned run. run ≡ planned) old now puts host later) (SpoolClear old) (JournalClear old)
@@ -84,7 +84,8 @@ module _ {D : Type 0} {g : disk.Ghosts D} {E : Type 0} (r : Result (Unit {0}) E)
     here_fell before which (inr fell) = inr (here_cut old now puts host later not_due (fails_of old) before which fell)
 
   -- behind a checkpoint
-  module _ (mid : Store D g) (snapshot : List ℕ) (due : is_due (active_of old).records ≡ true) (turned : active_of mid ≡ turned_to (active_of old))
+  module _ (mid : Store D g) (snapshot : List ℕ) (due : is_due (active_of old).is_old (active_of old).records ≡ true)
+      (turned : active_of mid ≡ turned_to (active_of old))
       (same_spool : mid.spool ≡ old.spool) (fuse : (w : Which) (i : ℕ) → fails_of mid w i ≡ fails_of old w i)
       (t : Turning (λ planned run. run ≡ planned) old mid snapshot host) (past : IsTurned (active_of old) (fails_of old) (history_of old)) where
     fails_path : fails_of mid ≡ fails_of old
@@ -129,7 +130,7 @@ plain_turned {D} {g} old now same host = ap (λ s. map_state (extent_bytes (cont
 
 -- a call of a checkpoint failed
 module _ {D : Type 0} {g : disk.Ghosts D} (old now : Store D g) (puts : List (List ℕ)) (host : Host) (later : Plain) (snapshot : List ℕ)
-    (due : is_due (active_of old).records ≡ true) (t : Turning StopsShort old now snapshot host) where
+    (due : is_due (active_of old).is_old (active_of old).records ≡ true) (t : Turning StopsShort old now snapshot host) where
   pub turn_fell : (which : Which)
       → IsTrue (is_starved now which) ⊎ IsTurnCut (active_of old) (fails_of old) (history_of old) (history_of now) (plain_of old host) which
       → IsTrue (is_starved now which) ⊎ IsCutAt (active_of old) (fails_of old) puts (history_of old) (history_of now) (plain_of old host) later which
@@ -227,7 +228,8 @@ module _ {D : Type 0} {g : disk.Ghosts D} {E : Type 0} (old now : Store D g) (ch
   }
 
   -- a call of a checkpoint failed
-  pub turn_commits : (e : E) (text snapshot : List ℕ) → is_due (active_of old).records ≡ true → IsTextOf text snapshot → snapshot_of snapshot ≡ Ok host
+  pub turn_commits : (e : E) (text snapshot : List ℕ) → is_due (active_of old).is_old (active_of old).records ≡ true → IsTextOf text snapshot
+      → snapshot_of snapshot ≡ Ok host
       → TurnsOver {T = Unit {0}} old now failed (Err e) text → Commits {T = Unit {0}} old now change puts host failed (Err e)
   turn_commits e text snapshot due is reads t = record {
     made = λ told. tt;
@@ -239,7 +241,8 @@ module _ {D : Type 0} {g : disk.Ghosts D} {E : Type 0} (old now : Store D g) (ch
 
   module _ (r : Result (Unit {0}) E) where
     -- a change without a checkpoint
-    pub here_commits : is_due (active_of old).records ≡ false → Records old now change puts host failed r → Commits old now change puts host failed r
+    pub here_commits : is_due (active_of old).is_old (active_of old).records ≡ false → Records old now change puts host failed r
+        → Commits old now change puts host failed r
     here_commits not_due e =
         let later = state_after old change puts host in
         record {
@@ -249,12 +252,13 @@ module _ {D : Type 0} {g : disk.Ghosts D} {E : Type 0} (old now : Store D g) (ch
           any_moment = λ told tells. here_moments r old now puts host later not_due (e.made told) (e.broken_off told) tells;
         }
 
-    pub here_keeps : (after : Change Extent) → is_due (active_of old).records ≡ false → KeepsChange old now change after puts host (recorded (active_of old)) r
+    pub here_keeps : (after : Change Extent) → is_due (active_of old).is_old (active_of old).records ≡ false
+        → KeepsChange old now change after puts host (recorded (active_of old)) r
         → KeepsChange old now change after puts host (recorded (ready (active_of old))) r
     here_keeps after not_due = subst (λ a. KeepsChange old now change after puts host (recorded a) r) (sym (here (active_of old) not_due))
 
     -- a checkpoint and then a change
-    module _ (mid : Store D g) (text snapshot : List ℕ) (due : is_due (active_of old).records ≡ true) (is : IsTextOf text snapshot)
+    module _ (mid : Store D g) (text snapshot : List ℕ) (due : is_due (active_of old).is_old (active_of old).records ≡ true) (is : IsTextOf text snapshot)
         (reads : snapshot_of snapshot ≡ Ok host) (t : TurnsOver {T = Unit {0}} old mid failed (Ok tt) text)
         (fuse : IsTrue g.tells → (w : Which) (i : ℕ) → fails_of mid w i ≡ fails_of old w i) where
       abbrev pub mid_later : Plain

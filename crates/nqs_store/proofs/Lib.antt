@@ -20,7 +20,6 @@ pub mod Putting
 pub mod Freeing
 pub mod Accounts
 pub mod ShortExtents
-pub mod ShortParts
 pub mod Lengths
 pub mod PlainSame
 pub mod Committed

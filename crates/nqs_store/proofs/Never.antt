@@ -4,7 +4,7 @@ use Rattle.std.proofs.lemmas.Option.{same_Some, none-some}
 use Rattle.nqs_types.specs.declared.world.Which.{Which}
 use Rattle.nqs_types.specs.declared.world.Which.TheVariants.{Root, Spool}
 use Rattle.nqs_base.specs.declared.extent.Extent.{Extent}
-use Rattle.nqs_journal.specs.Either.{front_of, StandsBy}
+use Rattle.nqs_journal.specs.Either.{front_of, version_of, StandsBy}
 use Rattle.nqs_journal.specs.Faults as faults
 use Rattle.nqs_journal.specs.declared.fault.JournalFault.{JournalFault}
 use Rattle.nqs_journal.specs.declared.fault.JournalFault.TheVariants as journal
@@ -98,15 +98,15 @@ read_not on version snapshot payloads spool host (load.Memory memory) tells soun
 
 -- by what a journal stands for, one host is told
 pub one_host : (bytes : List ℕ) (v w : ℕ) (snapshot other : List ℕ) (ps qs : List (List ℕ)) (a b : Host) → StandsBy bytes v snapshot ps
-    → told_by v snapshot ps ≡ Some a → StandsBy bytes w other qs → told_by w other qs ≡ Some b → a ≡ b
+    → told_by (version_of v) snapshot ps ≡ Some a → StandsBy bytes w other qs → told_by (version_of w) other qs ≡ Some b → a ≡ b
 one_host bytes v w snapshot other ps qs a b p tells q tells' =
     let same = one_reading bytes v w snapshot other ps qs p q in
-    same_Some a b (sym tells ∙ (λ j. told_by (same.0 j) (same.1 j) (same.2 j)) ∙ tells')
+    same_Some a b (sym tells ∙ (λ j. told_by (version_of (same.0 j)) (same.1 j) (same.2 j)) ∙ tells')
 
 -- bytes tell one host
 pub one_told : (bytes : Which → List ℕ) (a b : Host) → IsToldHost bytes a → IsToldHost bytes b → a ≡ b
 one_told bytes a b is is' =
-    one_host (bytes (active (bytes Root))) is.version is'.version is.snapshot is'.snapshot is.payloads is'.payloads a b is.stands is.tells is'.stands is'.tells
+    one_host (bytes (active (bytes Root))) is.form is'.form is.snapshot is'.snapshot is.payloads is'.payloads a b is.stands is.tells is'.stands is'.tells
 
 -- no fault says that bytes which tell a host are no host's
 pub load_not : (bytes : Which → List ℕ) (host : Host) (fault : LoadFault) → IsToldHost bytes host → IsLoadFault bytes fault
@@ -114,9 +114,10 @@ pub load_not : (bytes : Which → List ℕ) (host : Host) (fault : LoadFault) �
 load_not bytes host fault is_told (inl (inl bad)) which place is = let no : ⊥ = cc in no
 load_not bytes host fault is_told (inl (inr bad)) which place is = let no : ⊥ = cc in no
 load_not bytes host fault is_told (inr (inl bad)) which place is =
-    journal_not (active (bytes Root)) (bytes (active (bytes Root))) is_told.version is_told.snapshot is_told.payloads bad.0 fault is_told.stands bad.1 bad.2
+    journal_not (active (bytes Root)) (bytes (active (bytes Root))) is_told.form is_told.snapshot is_told.payloads bad.0 fault is_told.stands bad.1 bad.2
     which place is
 load_not bytes host fault is_told (inr (inr bad)) which place is =
-    let same = one_reading (bytes (active (bytes Root))) is_told.version bad.0 is_told.snapshot bad.1 is_told.payloads bad.2 is_told.stands bad.3 in
-    read_not (active (bytes Root)) bad.0 bad.1 bad.2 (bytes Spool) host fault ((λ j. told_by (sym same.0 j) (sym same.1 j) (sym same.2 j)) ∙ is_told.tells)
+    let same = one_reading (bytes (active (bytes Root))) is_told.form bad.0 is_told.snapshot bad.1 is_told.payloads bad.2 is_told.stands bad.3 in
+    read_not (active (bytes Root)) (version_of bad.0) bad.1 bad.2 (bytes Spool) host fault
+    ((λ j. told_by (version_of (sym same.0 j)) (sym same.1 j) (sym same.2 j)) ∙ is_told.tells)
     is_told.sound bad.4 which place is

@@ -56,12 +56,13 @@ module _ {D : Type 0} {g : disk.Ghosts D} (store : Store D g) where
       → is_second (content (history_of store Root)) ≡ store.on_second
       → IsQuiet (history_of store Root) → IsQuiet (history_of store (journal_on (not store.on_second))) → Tells store host
   opened_tells host is named root rest = record {
-    version = is.version;
+    form = is.form;
     snapshot = is.snapshot;
     payloads = is.payloads;
     is = is.is;
     journal = is.journal;
     many = is.many;
+    old = is.old;
     records = is.records;
     named = named;
     root = root;

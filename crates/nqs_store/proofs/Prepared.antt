@@ -43,7 +43,7 @@ module _ {D : Type 0} {g : disk.Ghosts D} (old now : Store D g) (root : now.root
   journal_path = λ j. pick (on j) (first j) (second j)
 
   pub active_path : active_of now ≡ active_of old
-  active_path = λ j. record { second = on j; records = journal.count_of (journal_path j) }
+  active_path = λ j. record { second = on j; records = journal.count_of (journal_path j); is_old = journal.is_old (journal_path j) }
 
   pub plain_path : (host : Host) → plain_of now host ≡ plain_of old host
   plain_path host = ap (λ d. map_state (extent_bytes (content (g.history d))) host) same
@@ -51,12 +51,13 @@ module _ {D : Type 0} {g : disk.Ghosts D} (old now : Store D g) (root : now.root
   -- what was told is told
   pub tells_same : (host : Host) → ((l : List Extent) → spool.Tells old.spool l → spool.Tells now.spool l) → Tells old host → Tells now host
   tells_same host room tells = record {
-    version = tells.version;
+    form = tells.form;
     snapshot = tells.snapshot;
     payloads = tells.payloads;
     is = tells.is;
-    journal = subst (λ j. journal.Tells j (front_of tells.version tells.snapshot) tells.payloads) (sym journal_path) tells.journal;
+    journal = subst (λ j. journal.Tells j (front_of tells.form tells.snapshot) tells.payloads) (sym journal_path) tells.journal;
     many = tells.many ∙ ap journal.count_of (sym journal_path);
+    old = ap journal.is_old journal_path ∙ tells.old;
     records = tells.records;
     named = ap (λ d. is_second (content (g.history d))) root ∙ tells.named ∙ sym on;
     root = subst (λ d. IsQuiet (g.history d)) (sym root) tells.root;

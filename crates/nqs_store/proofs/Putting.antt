@@ -12,7 +12,7 @@ use Rattle.nqs_spool.specs.Extents.{Has, IsWith, Holds}
 use Rattle.nqs_spool.specs.Puts.{put_calls}
 use Rattle.nqs_spool.specs.Spooled.{history_of, Tells}
 use Rattle.nqs_spool.specs.declared.spool.Spool.{Spool}
-use Rattle.nqs_records.specs.Values.{IsExtent}
+use Rattle.nqs_records.specs.Values.{IsScript}
 use Rattle.nqs_store.specs.Plan.{puts_calls}
 use Rattle.nqs_store.specs.Puts.{place_of}
 use Rattle.nqs_store.specs.Putting.{ArePartlyPut, ArePut}
@@ -61,6 +61,7 @@ module _ {D : Type 0} {g : disk.Ghosts D} where
     is = sym (append-nil extents);
     many = refl;
     small = tt;
+    lengths = refl;
     made = λ told. none_more (history_of spool);
     tells = λ live more tells adds. subst (Tells spool) adds tells;
     held = λ told live tells. tt;
@@ -69,16 +70,18 @@ module _ {D : Type 0} {g : disk.Ghosts D} where
 
   module _ (old mid now : Spool D g) (x : Extent) (put : List ℕ) (tells : (live more : List Extent) → Tells old live → IsWith live x more → Tells mid more)
       (stored : IsTrue g.tells → Holds (content (history_of mid)) x put) where
-    pub more_put : (puts later : List (List ℕ)) (before between after : List Extent) → puts ≡ put ∷ later → between ≡ before ++ x ∷ [] → IsExtent x
+    pub more_put : (puts later : List (List ℕ)) (before between after : List Extent) → puts ≡ put ∷ later → between ≡ before ++ x ∷ [] → IsScript x
+        → x.length ≡ length put
         → (IsTrue g.tells → history_of mid ≡ extended (history_of old) (put_calls x.place put))
         → (IsTrue g.tells → (live : List Extent) → Tells mid live → (y : Extent) (script : List ℕ) → Has live y → Holds (content (history_of mid)) y script
         → Holds (content (history_of now)) y script)
         → ArePut later mid now between after → ArePut puts old now before after
-    more_put puts later before between after is pushed small made still rest = subst (λ l. ArePut l old now before after) (sym is) (record {
+    more_put puts later before between after is pushed small long made still rest = subst (λ l. ArePut l old now before after) (sym is) (record {
       added = x ∷ rest.added;
       is = rest.is ∙ ap (λ l. l ++ rest.added) pushed ∙ append_assoc before (x ∷ []) rest.added;
       many = ap suc rest.many;
       small = (small, rest.small);
+      lengths = λ j. long j ∷ rest.lengths j;
       made = λ told. goes_on (history_of old) (history_of mid) (history_of now) (put_calls x.place put) (puts_calls (map place_of rest.added) later) (made told)
           (rest.made told);
       tells = λ live more was adds. rest.tells adds.0 more (tells live adds.0 was adds.1) adds.2;

@@ -7,7 +7,7 @@ use Rattle.nqs_journal.specs.Text.{StandsAfter}
 use Rattle.nqs_journal.specs.Plan.{append_calls}
 use Rattle.nqs_journal.specs.Gate.{IsAtGate}
 use Rattle.nqs_journal.specs.Faults.{IsAppendFault}
-use Rattle.nqs_journal.specs.Open.{disk_of, gate_of, count_of, is_stopped, history_of, Tells, BeforeOrAfter}
+use Rattle.nqs_journal.specs.Open.{disk_of, gate_of, count_of, is_old, is_stopped, history_of, Tells, BeforeOrAfter}
 use Rattle.nqs_journal.specs.declared.fault.JournalFault.{JournalFault}
 use Rattle.nqs_journal.specs.declared.fault.JournalFault.TheVariants.{Disk, NotJournal, TooLong, Stopped, Memory}
 use Rattle.nqs_journal.specs.declared.journal.Journal.{Journal}
@@ -19,6 +19,7 @@ module _ {D : Type 0} {g : disk.Ghosts D} (old now : Journal D g) (text : List �
   pub append_done : {E : Type 0}
       → is_stopped now ≡ false
       → count_of now ≡ count_of old + 1
+      → is_old now ≡ is_old old
       → (IsTrue g.tells → history_of now ≡ extended (history_of old) (append_calls (gate_of old) text))
       → (IsTrue g.tells → AreClear (g.fails (disk_of old)) (moment (history_of old)) 4)
       → (IsTrue g.tells → (front : List ℕ) (payloads : List (List ℕ)) → Tells old front payloads
@@ -28,8 +29,16 @@ module _ {D : Type 0} {g : disk.Ghosts D} (old now : Journal D g) (text : List �
       → g.faults (disk_of old) ≤ g.faults (disk_of now)
       → (IsTrue g.tells → g.reads (disk_of now) ≡ g.reads (disk_of old))
       → Appends {T = Unit {0}} {E = E} old now text (Ok tt)
-  append_done running counted made clear any_moment acknowledged fuse later unread = record {
-    done = record { running = running; counted = counted; made = made; clear = clear; any_moment = any_moment; acknowledged = acknowledged };
+  append_done running counted stays made clear any_moment acknowledged fuse later unread = record {
+    done = record {
+      running = running;
+      counted = counted;
+      stays = stays;
+      made = made;
+      clear = clear;
+      any_moment = any_moment;
+      acknowledged = acknowledged;
+    };
     fault = tt;
     short = tt;
     fuse = fuse;

@@ -34,14 +34,15 @@ module _ {D : Type 0} {g : disk.Ghosts D} where
   second_runs true stopped first second now same was is = same ∙ was is
   second_runs false stopped first second now same was is = was is
 
-  -- which journal is active, and how many records it has
+  -- which journal is active, how many records it has, and whether it is old
   abbrev active_in : Bool → (first second : Journal D g) → Active
-  active_in b first second = record { second = b; records = journal.count_of (pick b first second) }
+  active_in b first second = record { second = b; records = journal.count_of (pick b first second); is_old = journal.is_old (pick b first second) }
 
   pub active_again : (old : Store D g) (first second : Journal D g)
       → ((b : Bool) → journal.count_of (pick b first second) ≡ journal.count_of (journal_in b old))
+      → ((b : Bool) → journal.is_old (pick b first second) ≡ journal.is_old (journal_in b old))
       → active_in old.on_second first second ≡ active_of old
-  active_again old first second count = λ j. record { second = old.on_second; records = count old.on_second j }
+  active_again old first second count age = λ j. record { second = old.on_second; records = count old.on_second j; is_old = age old.on_second j }
 
   module _ (old : Store D g) (root : D) (first second : Journal D g) (kept : Spool D g)
       (running : old.stopped ≡ false → journal.is_stopped (if old.on_second then second else first) ≡ false) where
@@ -61,14 +62,16 @@ module _ {D : Type 0} {g : disk.Ghosts D} where
         → ((b : Bool) (front : List ℕ) (payloads : List (List ℕ)) → journal.Tells (journal_in b old) front payloads
         → journal.Tells (journal_in b now) front payloads)
         → ((b : Bool) → journal.count_of (journal_in b now) ≡ journal.count_of (journal_in b old))
+        → ((b : Bool) → journal.is_old (journal_in b now) ≡ journal.is_old (journal_in b old))
         → ((live : List Extent) → spool.Tells old.spool live → spool.Tells kept live) → (host : Host) → Tells old host → Tells now host
-    tells_again same stays count holds host tells = record {
-      version = tells.version;
+    tells_again same stays count age holds host tells = record {
+      form = tells.form;
       snapshot = tells.snapshot;
       payloads = tells.payloads;
       is = tells.is;
       journal = stays old.on_second _ _ tells.journal;
       many = tells.many ∙ sym (count old.on_second);
+      old = age old.on_second ∙ tells.old;
       records = tells.records;
       named = ap (λ h. is_second (content h)) (same Root) ∙ tells.named;
       root = subst IsQuiet (sym (same Root)) tells.root;

@@ -61,6 +61,7 @@ module _ {D : Type 0} {g : disk.Ghosts D} (was now mid : Spool D g) (same : disk
             is = put.is;
             many = put.many;
             small = put.small;
+            lengths = put.lengths;
             made = λ told. subst (λ d. history_of mid ≡ extended (g.history d) (Rattle.nqs_store.specs.Plan.puts_calls (map place_of put.added) puts)) same
                 (put.made told);
             tells = λ live more tells adds. put.tells live more (room live tells) adds;

@@ -159,6 +159,13 @@ bad_later payloads first later host place (Memory memory) is one stands bad = tt
 
 -- records behind a snapshot
 
+-- how long its front is
+pub length-front_by : (version : ℕ) (snapshot : List ℕ) → version ≢ 0 → version ≤ 2 → length (front_of version snapshot) ≡ 24 + length snapshot
+length-front_by zero snapshot some few = absurd (some refl)
+length-front_by (suc zero) snapshot some few = length-front_of 1 snapshot refl
+length-front_by (suc (suc zero)) snapshot some few = length-front_of 2 snapshot refl
+length-front_by (suc (suc (suc more))) snapshot some few = absurd (let no : ⊥ = omega arith in no)
+
 pub told_snapshot : (version : ℕ) (snapshot : List ℕ) (payloads : List (List ℕ)) (host now : Host) → version ≢ 0 → host_by version snapshot ≡ Ok host
     → told_from (Some host) payloads ≡ Some now → told_by version snapshot payloads ≡ Some now
 told_snapshot zero snapshot payloads host now is_one reads rest = absurd (is_one refl)
@@ -172,12 +179,11 @@ bad_snapshot (suc more) snapshot payloads (Untold place) is_one bad =
 bad_snapshot version snapshot payloads (Memory memory) is_one bad = tt
 
 pub bad_behind : (version : ℕ) (snapshot : List ℕ) (payloads : List (List ℕ)) (host : Host) (place : ℕ) (fault : TellFault) → version ≢ 0
-    → host_by version snapshot ≡ Ok host → place ≡ 24 + length snapshot → IsTakenFault host place payloads fault → IsTellFault version snapshot payloads fault
+    → host_by version snapshot ≡ Ok host → place ≡ length (front_of version snapshot) → IsTakenFault host place payloads fault → IsTellFault version snapshot payloads fault
 bad_behind zero snapshot payloads host place (Untold at) is_one reads stands bad = absurd (is_one refl)
 bad_behind (suc more) snapshot payloads host place (Untold at) is_one reads stands bad =
-    let front = length (front_of (suc more) snapshot) in
-    subst (λ r. IsUntoldBehind r front payloads at) (sym reads)
-    (subst (λ p. IsBadFrom host p payloads at) (stands ∙ sym (length-front_of (suc more) snapshot is_one)) bad)
+    subst (λ r. IsUntoldBehind r (length (front_of (suc more) snapshot)) payloads at) (sym reads)
+    (subst (λ p. IsBadFrom host p payloads at) stands bad)
 bad_behind version snapshot payloads host place (Memory memory) is_one reads stands bad = tt
 
 -- each version but the first has the spelling of today

@@ -184,12 +184,13 @@ module _ {D : Type 0} {g : disk.Ghosts D} (old now : Store D g) (text snapshot :
 
       pub turned_tells : now.on_second ≡ not old.on_second → snapshot_of snapshot ≡ Ok host → Tells old host → Tells now host
       turned_tells flipped reads tells = record {
-        version = 2;
+        form = 2;
         snapshot = snapshot;
         payloads = [];
         is = is_text.small;
         journal = subst (λ b. journal.Tells (journal_in b now) (snapshot_front snapshot) []) (sym flipped) (begun.tells yes snapshot is_text.is);
         many = sym begun.counted ∙ ap (λ b. journal.count_of (journal_in b now)) (sym flipped);
+        old = ap (λ b. journal.is_old (journal_in b now)) flipped ∙ begun.new;
         records = ap (λ r. told_behind r []) reads;
         named = root_names (o Root) (n Root) (not old.on_second) named ∙ sym flipped;
         root = root_quiet (o Root) (n Root) (not old.on_second) named;

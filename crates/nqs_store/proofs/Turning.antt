@@ -134,7 +134,7 @@ module _ {D : Type 0} {g : disk.Ghosts D} (yes : IsTrue g.tells) (old : Store D 
       record {
         host = host;
         is = record {
-          version = 2;
+          form = 2;
           snapshot = snapshot;
           payloads = [];
           stands = subst (λ b. StandsBy (images (journal_on b)) 2 snapshot []) (sym named) stands;
@@ -143,7 +143,7 @@ module _ {D : Type 0} {g : disk.Ghosts D} (yes : IsTrue g.tells) (old : Store D 
         };
         bytes = bytes_image (images Spool) spool;
       },
-      record { named = named; version = 2; snapshot = snapshot; payloads = []; stands = stands; many = refl },
+      record { named = named; form = 2; snapshot = snapshot; payloads = []; stands = stands; many = refl; old = refl },
     )
 
     -- so whatever the root's image is, the state is told

@@ -2,7 +2,6 @@
 -- facts, which each of them cites.
 use Rattle.std.specs.Prelude.{◌≡◌, ◌⊎◌, ℕ, ◌≤◌, false, IsTrue, List, [], length, Ok, OnOk, OnErr, IsErrOf}
 use Rattle.std.specs.declared.result.Result.{Result}
-use Rattle.std.specs.List.{AllByRecursion}
 use Rattle.nqs_state.specs.State.{Plain}
 use Rattle.nqs_base.specs.declared.extent.Extent.{Extent}
 use Rattle.nqs_types.specs.declared.change.Change.{Change}
@@ -30,7 +29,7 @@ use Rattle.nqs_store.specs.Commits.{AreClear, FailsFirst, IsKept, IsCutAt, Keepi
 use Rattle.nqs_store.specs.Hosts.{HostCall, Runs, EachPrefix, StopsShort}
 use Rattle.nqs_store.specs.Images.{IsTold}
 use Rattle.nqs_store.specs.Plan.{CommitsBy, checkpoint_calls}
-use Rattle.nqs_store.specs.Puts.{IsShortPut}
+use Rattle.nqs_store.specs.Puts.{AreShortFor}
 use Rattle.nqs_store.specs.Putting.{ArePartlyPut}
 use Rattle.nqs_store.specs.Stops.{StopsBy}
 use Rattle.nqs_store.specs.Steps.{IsTextOf, HasBegun, HasBegunShort, HasAppended, HasAppendedShort}
@@ -46,8 +45,8 @@ pub record MayCommit (host : Host) (change : Change Extent) (puts : List (List �
   pub may_stand : MayStand change
   -- there are bytes for each of its parts that is stored
   pub as_many : length puts ≡ length (stored_parts change)
-  -- each of them is short enough for an extent
-  pub short : AllByRecursion IsShortPut puts
+  -- they are no more than these parts may have
+  pub short : AreShortFor change puts
 
 -- memory was taken for all that keeping a change takes: room in the spool, a list of extents, and
 -- the text of its record

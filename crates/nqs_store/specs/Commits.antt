@@ -30,12 +30,12 @@ EachImage now P = (images : Which → List ℕ) → ((which : Which) → IsImage
 
 -- the calls of a checkpoint, where one is due, weren't to fail
 pub record IsPast (a : Active) (fails : Which → ℕ → Bool) (old : Which → History) : Type 0 where
-  pub other : IsTrue (is_due a.records) → AreClear (fails (other_of a)) (moment (old (other_of a))) 2
-  pub root : IsTrue (is_due a.records) → AreClear (fails Root) (moment (old Root)) 2
+  pub other : IsTrue (is_due a.is_old a.records) → AreClear (fails (other_of a)) (moment (old (other_of a))) 2
+  pub root : IsTrue (is_due a.is_old a.records) → AreClear (fails Root) (moment (old Root)) 2
 
 -- how many calls a checkpoint, where one is due, makes of the journal that it turns to
 abbrev pub calls_before : Active → ℕ
-calls_before a = if is_due a.records then 2 else 0
+calls_before a = if is_due a.is_old a.records then 2 else 0
 
 -- of the journal that a change's record goes to, the moment of the first of its four calls
 abbrev pub record_moment : Active → (Which → History) → ℕ
@@ -43,7 +43,7 @@ record_moment a old = moment (old (journal_of (ready a))) + calls_before a
 
 -- the calls of the root that a checkpoint makes, where one is due
 abbrev pub root_calls : Active → List Call
-root_calls a = if is_due a.records then begin_calls (byte_of (not a.second) ∷ []) else []
+root_calls a = if is_due a.is_old a.records then begin_calls (byte_of (not a.second) ∷ []) else []
 
 -- Just the calls of a commit of these bytes were made, and none of them was to fail.
 pub record IsKept (a : Active) (fails : Which → ℕ → Bool) (puts : List (List ℕ)) (old now : Which → History) : Type 0 where
@@ -63,12 +63,12 @@ IsSettled old calls which = (after (state (old which)) (part which calls)).range
 -- A journal has one record more: each image that it might leave stood by one of the forms for some
 -- payloads, and each that it may leave now stands for these and one more.
 pub record HasOneMore (was now : History) : Type 0 where
-  pub version : ℕ
+  pub form : ℕ
   pub snapshot : List ℕ
   pub payloads : List (List ℕ)
   pub payload : List ℕ
-  pub before : (image : List ℕ) → IsImage (state was) image → StandsBy image version snapshot payloads
-  pub after : (image : List ℕ) → IsImage (state now) image → StandsBy image version snapshot (payloads ++ payload ∷ [])
+  pub before : (image : List ℕ) → IsImage (state was) image → StandsBy image form snapshot payloads
+  pub after : (image : List ℕ) → IsImage (state now) image → StandsBy image form snapshot (payloads ++ payload ∷ [])
 
 -- what the journal that a change's record goes to did before that record: what it did before, and
 -- the calls of a checkpoint
@@ -141,12 +141,12 @@ module _ (a : Active) (fails : Which → ℕ → Bool) (puts : List (List ℕ)) 
   -- a call of one of the journals, of that on `second` or of the other, cut a commit off: one of a
   -- checkpoint, which was due, or one of the record
   abbrev pub IsCutOn : Bool → Type 0
-  IsCutOn second = ((not a.second ≡ second) × IsTrue (is_due a.records) × IsCutAtOther a fails old now before)
+  IsCutOn second = ((not a.second ≡ second) × IsTrue (is_due a.is_old a.records) × IsCutAtOther a fails old now before)
       ⊎ (((ready a).second ≡ second) × IsCutAtRecord)
 
   -- a call of this disk cut a commit off; one of the root, where a checkpoint was due
   abbrev pub IsCutAt : Which → Type 0
-  IsCutAt Root = IsTrue (is_due a.records) × IsCutAtRoot a fails old now before
+  IsCutAt Root = IsTrue (is_due a.is_old a.records) × IsCutAtRoot a fails old now before
   IsCutAt First = IsCutOn false
   IsCutAt Second = IsCutOn true
   IsCutAt Spool = IsCutAtSpool

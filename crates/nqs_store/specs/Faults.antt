@@ -3,7 +3,7 @@ use Rattle.std.specs.Prelude.{◌≡◌, ◌⊎◌, ℕ, List, length, Some}
 use Rattle.nqs_types.specs.declared.world.Which.TheVariants.{Root, First, Second, Spool}
 use Rattle.nqs_base.specs.Want.{want}
 use Rattle.nqs_base.specs.declared.extent.Extent.{Extent}
-use Rattle.nqs_journal.specs.Either.{StandsBy}
+use Rattle.nqs_journal.specs.Either.{version_of, StandsBy}
 use Rattle.nqs_rules.specs.Journals.{active}
 use Rattle.nqs_types.specs.declared.world.Which.{Which}
 use Rattle.nqs_journal.specs.Faults as faults
@@ -55,8 +55,8 @@ IsReadFault on version snapshot payloads spool (load.Memory memory) = Unit {0}
 abbrev pub IsBytesFault : Which → (journal spool : List ℕ) → LoadFault → Type 0
 IsBytesFault on bytes spool fault =
     ((journal : JournalFault) × faults.IsEitherLoadFault bytes journal × JournalIsAt on journal fault)
-    ⊎ ((version : ℕ) × (snapshot : List ℕ) × (payloads : List (List ℕ)) × StandsBy bytes version snapshot payloads
-    × IsReadFault on version snapshot payloads spool fault)
+    ⊎ ((form : ℕ) × (snapshot : List ℕ) × (payloads : List (List ℕ)) × StandsBy bytes form snapshot payloads
+    × IsReadFault on (version_of form) snapshot payloads spool fault)
 
 -- Why the bytes of a host's disks are no host's: the root can't be read, or the journal that it
 -- names and the spool are at fault.

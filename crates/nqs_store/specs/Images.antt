@@ -6,7 +6,7 @@ use Rattle.nqs_types.specs.declared.world.Which.{Which}
 use Rattle.nqs_types.specs.declared.world.Which.TheVariants.{Root, Spool}
 use Rattle.nqs_rules.specs.Plain.{map_state}
 use Rattle.nqs_rules.specs.Journals.{active}
-use Rattle.nqs_journal.specs.Either.{StandsBy}
+use Rattle.nqs_journal.specs.Either.{version_of, StandsBy}
 use Rattle.nqs_store.specs.Told.{Host, told_by}
 use Rattle.nqs_spool.specs.Extents.{AreSound}
 use Rattle.nqs_store.specs.Live.{live}
@@ -14,11 +14,11 @@ use Rattle.nqs_store.specs.Live.{live}
 -- The bytes of a journal tell this host by one of its forms, and its live extents are sound in the
 -- bytes of a spool.
 pub record AreRead (bytes spool : List ℕ) (host : Host) : Type 0 where
-  pub version : ℕ
+  pub form : ℕ
   pub snapshot : List ℕ
   pub payloads : List (List ℕ)
-  pub stands : StandsBy bytes version snapshot payloads
-  pub tells : told_by version snapshot payloads ≡ Some host
+  pub stands : StandsBy bytes form snapshot payloads
+  pub tells : told_by (version_of form) snapshot payloads ≡ Some host
   pub sound : AreSound (length spool) (live host)
 
 -- the journal that the root names and the spool tell this host

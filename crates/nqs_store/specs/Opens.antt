@@ -23,7 +23,7 @@ use Rattle.nqs_store.specs.declared.fault.LoadFault.TheVariants as load
 use Rattle.nqs_store.specs.declared.store.Store.{Store}
 use Rattle.nqs_outside.specs.Reads as one
 use Rattle.nqs_outside.specs.declared.disk.Disk as disk
-use Rattle.nqs_journal.specs.Either.{front_of, IsSnapshot}
+use Rattle.nqs_journal.specs.Either.{front_of, version_of, is_old_form, IsSnapshot}
 use Rattle.nqs_journal.specs.Open as journals
 use Rattle.nqs_journal.specs.declared.journal.Journal.{Journal}
 use Rattle.nqs_spool.specs.Extents.{AreSound, Covers, past}
@@ -37,13 +37,14 @@ use Rattle.nqs_store.specs.Live.{live}
 module _ {D : Type 0} {g : disk.Ghosts D} where
   -- The journal and the spool are open, and tell this host.
   pub record AreOpened (j : Journal D g) (s : Spool D g) (host : Host) : Type 0 where
-    pub version : ℕ
+    pub form : ℕ
     pub snapshot : List ℕ
     pub payloads : List (List ℕ)
-    pub is : IsSnapshot version snapshot
-    pub journal : journals.Tells j (front_of version snapshot) payloads
+    pub is : IsSnapshot form snapshot
+    pub journal : journals.Tells j (front_of form snapshot) payloads
     pub many : length payloads ≡ journals.count_of j
-    pub records : told_by version snapshot payloads ≡ Some host
+    pub old : journals.is_old j ≡ is_old_form form
+    pub records : told_by (version_of form) snapshot payloads ≡ Some host
     pub spool : spool.Tells s (live host)
 
   -- A spool is opened with the set of its live extents, and the other journal is laid at rest; or

@@ -24,7 +24,7 @@ checkpoint_calls a snapshot = on (other_of a) (front_calls (snapshot_front snaps
 
 -- the same, where one is due, and else none
 abbrev pub due_calls : Active → List ℕ → List HostCall
-due_calls a snapshot = if is_due a.records then checkpoint_calls a snapshot else []
+due_calls a snapshot = if is_due a.is_old a.records then checkpoint_calls a snapshot else []
 
 -- the bytes go to the spool, and then the record to the active journal
 abbrev pub change_calls : Active → List ℕ → List (List ℕ) → ℕ → List ℕ → List HostCall

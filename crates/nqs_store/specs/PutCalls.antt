@@ -13,7 +13,7 @@ use Rattle.nqs_types.specs.declared.change.Change.{Change}
 use Rattle.nqs_rules.specs.Stepped.{stored_parts}
 use Rattle.nqs_records.specs.Changes.{MayStand, spelling}
 use Rattle.nqs_store.specs.Calls.{IsPrepared, Puts}
-use Rattle.nqs_store.specs.Puts.{IsShortPut}
+use Rattle.nqs_store.specs.Puts.{IsShortPut, AreShortFor}
 use Rattle.nqs_store.specs.Putting.{ArePut, ArePutFor}
 use Rattle.nqs_store.specs.declared.fault.StoreFault.{StoreFault}
 use Rattle.nqs_store.specs.declared.fault.StoreFault.TheVariants as store
@@ -43,8 +43,8 @@ pub record MayPutFor (free : ℕ) (extents : List Extent) (capacity : ℕ) (reco
   pub may_stand : MayStand change
   -- there are bytes for each of its parts that is stored
   pub as_many : length puts ≡ length (stored_parts change)
-  -- each of them is short enough for an extent
-  pub short : AllByRecursion IsShortPut puts
+  -- they are no more than these parts may have
+  pub short : AreShortFor change puts
   -- memory was taken
   pub prepared : IsPrepared free extents capacity record_text change puts
 

@@ -7,13 +7,13 @@ use Rattle.nqs_outside.specs.declared.disk.Disk as disk
 use Rattle.nqs_spool.specs.Spooled.{history_of, Tells}
 use Rattle.nqs_spool.specs.declared.spool.Spool.{Spool}
 use Rattle.nqs_types.specs.declared.change.Change.{Change}
-use Rattle.nqs_records.specs.Values.{IsExtent}
+use Rattle.nqs_records.specs.Values.{IsScript}
 use Rattle.nqs_records.specs.Changes.{MayStand, spelling}
 use Rattle.nqs_records.specs.Kinds.{record_of}
 use Rattle.nqs_records.specs.Extents.{with_extents}
 use Rattle.nqs_store.specs.Accounts.{Adds}
 use Rattle.nqs_store.specs.Plan.{puts_calls}
-use Rattle.nqs_store.specs.Puts.{place_of, HoldEach}
+use Rattle.nqs_store.specs.Puts.{place_of, length_of, HoldEach}
 
 -- The first of the calls were made, of which only the last may have failed.
 pub record ArePartlyPut (puts : List (List ℕ)) (old now : History) : Type 0 where
@@ -29,7 +29,8 @@ module _ {D : Type 0} {g : disk.Ghosts D} where
     pub added : List Extent
     pub is : after ≡ before ++ added
     pub many : length added ≡ length puts
-    pub small : AllByRecursion IsExtent added
+    pub small : AllByRecursion IsScript added
+    pub lengths : map length_of added ≡ map length puts
     pub made : IsTrue g.tells → history_of now ≡ extended (history_of old) (puts_calls (map place_of added) puts)
     pub tells : (live more : List Extent) → Tells old live → Adds live added more → Tells now more
     pub held : IsTrue g.tells → (live : List Extent) → Tells old live → HoldEach (content (history_of now)) added puts

@@ -98,6 +98,7 @@ module _ {D : Type 0} {g : disk.Ghosts D} where
         (spools.disk_of spool_old) (spools.disk_of spool_now) result
     -- the journal is the same
     pub stays : (journals.is_stopped now ≡ journals.is_stopped old) × (journals.count_of now ≡ journals.count_of old)
+        × (journals.is_old now ≡ journals.is_old old)
     -- and tells what it told
     pub tells : IsTrue g.tells → (front : List ℕ) (payloads : List (List ℕ)) → journals.Tells old front payloads → journals.Tells now front payloads
     -- so does the spool

@@ -10,7 +10,7 @@ use Rattle.nqs_journal.specs.Text.{StandsAfter, snapshot_front}
 use Rattle.nqs_journal.specs.Plan.{append_calls, begin_calls}
 use Rattle.nqs_journal.specs.Either.{IsSnapshotText}
 use Rattle.nqs_journal.specs.Gate.{IsAtGate}
-use Rattle.nqs_journal.specs.Open.{disk_of, gate_of, count_of, is_stopped, history_of, Tells, BeforeOrAfter}
+use Rattle.nqs_journal.specs.Open.{disk_of, gate_of, count_of, is_old, is_stopped, history_of, Tells, BeforeOrAfter}
 use Rattle.nqs_journal.specs.declared.journal.Journal.{Journal}
 use Rattle.nqs_snapshot.specs.Reading.{snapshot_of}
 use Rattle.nqs_store.specs.Commits.{AreClear}
@@ -36,6 +36,7 @@ module _ {D : Type 0} {g : disk.Ghosts D} where
   pub record HasBegun (old now : Journal D g) (text : List ℕ) : Type 0 where
     pub running : is_stopped now ≡ false
     pub counted : count_of now ≡ 0
+    pub new : is_old now ≡ false
     pub tells : IsTrue g.tells → (snapshot : List ℕ) → text ≡ snapshot_front snapshot ++ 0 ∷ [] → Tells now (snapshot_front snapshot) []
     pub made : IsTrue g.tells → history_of now ≡ extended (history_of old) (begin_calls text)
     pub clear : IsTrue g.tells → AreClear (g.fails (disk_of old)) (moment (history_of old)) 2
@@ -51,6 +52,7 @@ module _ {D : Type 0} {g : disk.Ghosts D} where
   pub record HasAppended (old now : Journal D g) (text : List ℕ) : Type 0 where
     pub running : is_stopped now ≡ false
     pub counted : count_of now ≡ count_of old + 1
+    pub stays : is_old now ≡ is_old old
     pub made : IsTrue g.tells → history_of now ≡ extended (history_of old) (append_calls (gate_of old) text)
     pub clear : IsTrue g.tells → AreClear (g.fails (disk_of old)) (moment (history_of old)) 4
     pub any_moment : IsTrue g.tells → (front : List ℕ) (payloads : List (List ℕ)) → Tells old front payloads

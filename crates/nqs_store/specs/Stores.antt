@@ -8,7 +8,7 @@ use Rattle.nqs_types.specs.declared.world.Which.TheVariants.{Root, First, Second
 use Rattle.nqs_rules.specs.Plain.{map_state}
 use Rattle.nqs_outside.specs.History.{History, IsQuiet, content}
 use Rattle.nqs_outside.specs.declared.disk.Disk as disk
-use Rattle.nqs_journal.specs.Either.{front_of, IsSnapshot}
+use Rattle.nqs_journal.specs.Either.{front_of, version_of, is_old_form, IsSnapshot}
 use Rattle.nqs_journal.specs.Open as journal
 use Rattle.nqs_journal.specs.declared.journal.Journal.{Journal}
 use Rattle.nqs_rules.specs.Journals.{is_second, journal_on}
@@ -46,18 +46,23 @@ module _ {D : Type 0} {g : disk.Ghosts D} where
 
   -- its active journal
   abbrev pub active_of : Store D g → Active
-  active_of store = record { second = store.on_second; records = journal.count_of (journal_in store.on_second store) }
+  active_of store = record {
+    second = store.on_second;
+    records = journal.count_of (journal_in store.on_second store);
+    is_old = journal.is_old (journal_in store.on_second store);
+  }
 
   -- The root names the active journal, whose records tell this host, and its live extents are those
   -- of the spool. Nothing is pending on any of the disks.
   pub record Tells (store : Store D g) (host : Host) : Type 0 where
-    pub version : ℕ
+    pub form : ℕ
     pub snapshot : List ℕ
     pub payloads : List (List ℕ)
-    pub is : IsSnapshot version snapshot
-    pub journal : journal.Tells (journal_in store.on_second store) (front_of version snapshot) payloads
+    pub is : IsSnapshot form snapshot
+    pub journal : journal.Tells (journal_in store.on_second store) (front_of form snapshot) payloads
     pub many : length payloads ≡ (active_of store).records
-    pub records : told_by version snapshot payloads ≡ Some host
+    pub old : (active_of store).is_old ≡ is_old_form form
+    pub records : told_by (version_of form) snapshot payloads ≡ Some host
     pub named : is_second (content (history_of store Root)) ≡ store.on_second
     pub root : IsQuiet (history_of store Root)
     pub rest : IsQuiet (history_of store (journal_on (not store.on_second)))

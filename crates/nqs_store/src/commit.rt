@@ -136,12 +136,13 @@ impl<D: Disk> Store<D> {
         self.keep(alloc, state, change, puts, &mut extents, &mut text)
     }
 
-    /// Whether the next change makes a checkpoint first: where the active journal has 4,096 records
-    /// or more.
+    /// Whether the next change makes a checkpoint first: where the active journal's text is old, or
+    /// it has 4,096 records or more.
     pub fn due(&self) -> bool
-        ensures { result ≡ is_due (active_of self.now).records }
+        ensures { result ≡ is_due (active_of self.now).is_old (active_of self.now).records }
     {
-        self.journal().count() >= DUE
+        let journal = self.journal();
+        journal.is_old() || journal.count() >= DUE
     }
 
     /// Makes a checkpoint of the host, whose told state is given: the other journal begins with it,

@@ -15,8 +15,8 @@ use nqs_spool::Spool;
 use nqs_types::{Change, OutPart};
 use std::alloc::Global;
 
-/// Puts each list of bytes, at most 32,768 of them, and adds its extent. Room was made for them in
-/// the spool and in the list. After a fault the spool is to be closed.
+/// Puts each list of bytes, no more than a script may have, and adds its extent. Room was made for
+/// them in the spool and in the list. After a fault the spool is to be closed.
 pub(crate) fn put_all<D: Disk>(
     spool: &mut Spool<D>,
     puts: &[Bytes],

@@ -207,6 +207,20 @@ fn tell_first(alloc: Global, payloads: &[Bytes]) -> Result<HostState, TellFault>
     Ok(state)
 }
 
+// How many bytes stand before the records: the header, or a snapshot's front.
+fn front_length(version: u8, snapshot: &[u8]) -> u64
+    requires { length (front_of version snapshot.now) ≤ 2 ^ 40 }
+    ensures { result ≡ length (front_of version snapshot.now) }
+{
+    if version == 0 {
+        return HEADER;
+    }
+    if version > 2 {
+        return HEADER;
+    }
+    SNAPSHOT + snapshot.len() as u64
+}
+
 // The host that records tell behind a snapshot.
 fn tell_behind(
     alloc: Global,
@@ -220,7 +234,7 @@ fn tell_behind(
 {
     let mut state = snapshot_host(alloc, version, snapshot)?;
     let mut running = running_of(alloc, &state)?;
-    let place = SNAPSHOT + snapshot.len() as u64;
+    let place = front_length(version, snapshot);
     take_records(alloc, &mut state, &mut running, place, payloads)?;
     Ok(state)
 }

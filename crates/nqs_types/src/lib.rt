@@ -15,6 +15,7 @@ mod reason;
 mod refusal;
 mod request;
 mod rule;
+mod script;
 mod table_row;
 mod world;
 
@@ -33,5 +34,6 @@ pub use request::{
     RefusedList, Row, RowState, Stage,
 };
 pub use rule::{Choice, Entry, Rank};
+pub use script::LONGEST_SCRIPT;
 pub use table_row::{NetState, TableRow};
 pub use world::{Seen, Which, WorldEvent};

@@ -1,7 +1,7 @@
 //! Datagrams. A datagram is copied variant by variant, one function for each that holds memory of
 //! its own.
 ghost use Rattle.std.specs.Prelude.{◌≡◌, IfOk};
-ghost use Rattle.nqs_types.specs.declared.message.Body.TheVariants.{Offer, Stage, Ask, Answer, Ended};
+ghost use Rattle.nqs_types.specs.declared.message.Body.TheVariants.{Offer, Stage, Ask, Answer, Ended, Piece};
 
 use crate::ids::{HostId, RequestId};
 use crate::request::Carried;
@@ -18,7 +18,7 @@ pub enum Tool {
     Tick,
 }
 
-/// What a datagram says, one variant a kind, from 1 to 13 in this order.
+/// What a datagram says, one variant a kind, from 1 to 14 in this order.
 #[derive(Drop)]
 pub enum Body {
     Offer {
@@ -81,6 +81,20 @@ pub enum Body {
     EndedAck {
         id: RequestId,
         start: u16,
+    },
+    /// One of the pieces in which a message travels that no datagram holds.
+    Piece {
+        /// The number of that message's kind.
+        kind: u8,
+        /// The port of a client, or 0.
+        port: u16,
+        /// The number of the handover, or the token of a client.
+        number: u64,
+        /// Which piece this is, from 0.
+        index: u8,
+        /// How many there are.
+        count: u8,
+        bytes: Bytes,
     },
 }
 
@@ -175,6 +189,27 @@ fn clone_ended(
     })
 }
 
+fn clone_piece(
+    kind: u8,
+    port: u16,
+    number: u64,
+    index: u8,
+    count: u8,
+    bytes: &Bytes,
+) -> Result<Body, AllocError>
+    ensures { IfOk result (λ body. body ≡ Piece kind port number index count bytes.now) }
+{
+    let bytes = bytes.clone()?;
+    Ok(Body::Piece {
+        kind,
+        port,
+        number,
+        index,
+        count,
+        bytes,
+    })
+}
+
 impl Clone for Body {
     ghost is_clone = { λ a b. b ≡ a };
 
@@ -223,6 +258,14 @@ impl Clone for Body {
                 id: *id,
                 start: *start,
             }),
+            Body::Piece {
+                kind,
+                port,
+                number,
+                index,
+                count,
+                bytes,
+            } => clone_piece(*kind, *port, *number, *index, *count, bytes),
         }
     }
 }
@@ -255,4 +298,5 @@ pub enum BodyKind {
     Answer,
     Ended,
     EndedAck,
+    Piece,
 }

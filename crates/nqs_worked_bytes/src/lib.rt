@@ -12,13 +12,14 @@ ghost use Rattle.nqs_journal.specs.Text.{header, records, StandsFor};
 ghost use Rattle.nqs_records.specs.Changes.{spelling};
 ghost use Rattle.nqs_store.specs.Faults.{IsLoadFault};
 ghost use Rattle.nqs_store.specs.declared.fault.LoadFault.TheVariants.{NotNqs};
-ghost use Rattle.nqs_worked_bytes.specs.Alpha.{alpha_record, alpha_journal, disks_with};
+ghost use Rattle.nqs_worked_bytes.specs.Alpha.{alpha_record, alpha_journal, old_alpha_journal, disks_with};
 
 /// What a format of host alpha leaves, in a site of alpha alone: 31 bytes, which stand for one
-/// record.
+/// record. So do the 31 bytes that a format of the version before left.
 pub fn formatted_host()
     ensures bytes { header ++ records (spelling (Site (host_at 0) (codes "alpha" ∷ [])) ∷ []) ++ 0 ∷ [] ≡ alpha_journal 1 }
     ensures stands { StandsFor (alpha_journal 1) (alpha_record ∷ []) }
+    ensures old { StandsFor old_alpha_journal (alpha_record ∷ []) }
 {}
 
 /// With 7 in place of its gate the record doesn't count. The bytes are a journal without records,

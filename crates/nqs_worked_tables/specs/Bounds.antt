@@ -1,6 +1,7 @@
 -- Values at their bounds: edits, jobs, requests on their way, changes, commands, datagrams and
 -- events.
-use Rattle.std.specs.Prelude.{ℕ, true, false, List, [], ◌∷◌, replicate, codes, None, Some}
+use Rattle.std.specs.Prelude.{ℕ, Bool, true, false, List, [], ◌∷◌, map, replicate, codes, None, Some}
+use Rattle.nqs_rules.specs.Sane.{is_short_change}
 use Rattle.nqs_worked.specs.ScheduleWords.{host, request, named, typed, job_of, bad_words}
 use Rattle.nqs_worked.specs.Definitions.{far_carried}
 use Rattle.nqs_types.specs.declared.request.Job.{Job}
@@ -159,6 +160,27 @@ lost_changes =
     ∷ Promised (host 0) 1 1 (codes "q") (record far_carried { hops = 33 }) [] ∷ Promised (host 0) 7 0 (codes "q") far_carried []
     ∷ Promised (host 0) 7 8 (codes "q") far_carried [] ∷ Promised (host 0) 0 0 (codes "q") far_carried [] ∷ StageGot (host 0) 1 bad_path [] ∷ []
 
+-- changes that store a script
+abbrev pub script_changes : List (Change (List ℕ))
+script_changes =
+    Submitted (codes "q") pathed [] ∷ OldPromised (host 9) 0 (codes "q") far_carried [] ∷ Promised (host 9) 1 1 (codes "q") far_carried [] ∷ []
+
+-- changes that store outputs
+abbrev pub output_changes : List (Change (List ℕ))
+output_changes = Ended (request 1 0) (part (codes "o") ∷ part (codes "e") ∷ []) ∷ StageGot (host 9) 0 (codes "o") [] ∷ []
+
+-- changes that store nothing
+abbrev pub other_changes : List (Change (List ℕ))
+other_changes =
+    Site (host 0) (site_of 1) ∷ Deleted (request 0 0) ∷ Doomed (request 0 0) ∷ Started (request 0 0) None ∷ Ended (request 1 0) [] ∷ Unlaunched (request 0 0)
+    ∷ Boot ∷ Edited (Limits (SetGlobalLimit 10000)) ∷ HandOpened (host 9) 0 (request 0 0) (codes "q") 0 ∷ HandCommitted (host 9) 0
+    ∷ HandRefused (host 9) 0 1 ∷ HandsSilent 0 [] ∷ HandDone (host 9) 0 ∷ Accepted (host 9) 0 ∷ Dropped (host 9) 0
+    ∷ MovedLocal (request 0 0) (codes "q") ∷ RefusedLocal (request 0 0) (codes "q") 0 ∷ HeldFar (request 0 0) ∷ StageGone (host 9) 0 ∷ FileGone 0 ∷ []
+
+-- whether each of the changes is short where each part that it stores has so many bytes
+abbrev pub are_short_with : ℕ → List (Change (List ℕ)) → List Bool
+are_short_with n changes = map (is_short_change (λ _. n)) changes
+
 -- a submission of such a job and such a script
 abbrev pub asked : Job → List ℕ → Command
 asked job script = command.Submit (record { queue = None; folder = None; job = job; script = script })
@@ -166,21 +188,22 @@ asked job script = command.Submit (record { queue = None; folder = None; job = j
 -- commands within their limits
 abbrev pub kept_commands : List Command
 kept_commands =
-    asked pathed (bytes 32768) ∷ command.Edit (Limits (SetGlobalLimit 10000)) ∷ command.Stat None [] ∷ command.Delete (named 0 (codes "h")) true
+    asked pathed (bytes 32769) ∷ command.Edit (Limits (SetGlobalLimit 10000)) ∷ command.Stat None [] ∷ command.Delete (named 0 (codes "h")) true
     ∷ command.Show 0 ∷ command.Shutdown ∷ command.Tick
     ∷ command.UnreadLine (grammar.Extra 1) ∷ command.UnreadWords (bad_words words_cause.Missing 0 1) ∷ []
 
 -- commands beyond them
 abbrev pub lost_commands : List Command
-lost_commands = asked pathed (bytes 32769) ∷ asked (record pathed { priority = 64 }) [] ∷ command.Edit (Limits (SetGlobalLimit 10001)) ∷ []
+lost_commands = asked (record pathed { priority = 64 }) [] ∷ command.Edit (Limits (SetGlobalLimit 10001)) ∷ []
 
 -- datagrams within their limits, in a site of two
 abbrev pub kept_bodies : List Body
 kept_bodies =
-    body.Offer 1 1 (codes "q") far_carried (bytes 32768) ∷ body.Offer 7 1 (codes "q") far_carried [] ∷ body.Offer 7 7 (codes "q") far_carried []
+    body.Offer 1 1 (codes "q") far_carried (bytes 32769) ∷ body.Offer 7 1 (codes "q") far_carried [] ∷ body.Offer 7 7 (codes "q") far_carried []
     ∷ body.Ready 1 ∷ body.Refused 1 3 ∷ body.Commit 1 ∷ body.Done 1 ∷ body.Inquire 1 ∷ body.Abort 1
     ∷ body.Stage 1 (codes "o") (bytes 32768) ∷ body.Staged 1
-    ∷ body.Ask 1 1 (codes "ann") Qmgr [] [] ∷ body.Answer 1 true [] ∷ body.Ended 1 (request 1 0) 1 0 [] [] ∷ body.EndedAck (request 1 0) 1 ∷ []
+    ∷ body.Ask 1 1 (codes "ann") Qmgr [] [] ∷ body.Answer 1 true [] ∷ body.Ended 1 (request 1 0) 1 0 [] [] ∷ body.EndedAck (request 1 0) 1
+    ∷ body.Piece 1 0 7 0 2 [] ∷ []
 
 -- datagrams beyond them
 abbrev pub lost_bodies : List Body
@@ -188,7 +211,7 @@ lost_bodies =
     body.Offer 0 0 (codes "q") far_carried [] ∷ body.Offer 7 0 (codes "q") far_carried [] ∷ body.Offer 7 8 (codes "q") far_carried []
     ∷ body.Offer 1 1 (codes "q") (record far_carried { hops = 33 }) []
     ∷ body.Offer 1 1 (codes "q") (record far_carried { id = request 3 2 }) []
-    ∷ body.Offer 1 1 (codes "q") far_carried (bytes 32769) ∷ body.Refused 0 3 ∷ body.Refused 1 4 ∷ body.Stage 0 (codes "o") [] ∷ body.Stage 1 bad_path []
+    ∷ body.Refused 0 3 ∷ body.Refused 1 4 ∷ body.Stage 0 (codes "o") [] ∷ body.Stage 1 bad_path []
     ∷ body.Stage 1 (codes "o") (bytes 32769) ∷ []
 
 -- a datagram from a host, in a site of two

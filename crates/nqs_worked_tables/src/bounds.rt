@@ -1,7 +1,9 @@
 //! Values at their bounds, and one beyond: edits, jobs, requests on their way, changes, commands,
 //! datagrams and events.
-ghost use Rattle.std.specs.Prelude.{◌≡◌, [], ◌∷◌, ◌++◌, map, replicate, codes, true, false, Some, None};
+ghost use Rattle.std.specs.Prelude.{◌≡◌, ℕ, nat_le, List, [], ◌∷◌, ◌++◌, length, map, replicate, codes, true, false, Some, None};
+ghost use Rattle.nqs_types.specs.declared.message.Body.TheVariants as body;
 ghost use Rattle.nqs_worked.specs.ScheduleWords.{host, request};
+ghost use Rattle.nqs_worked.specs.Definitions.{far_carried};
 ghost use Rattle.nqs_rules.specs.Conf.{is_conf_within};
 ghost use Rattle.nqs_rules.specs.Limits.{is_limits_within};
 ghost use Rattle.nqs_rules.specs.Rows.{is_rows_within};
@@ -10,7 +12,8 @@ ghost use Rattle.nqs_rules.specs.Sane.{is_sane_folder, is_sane_command, is_offer
 ghost use Rattle.nqs_worked_tables.specs.Bounds.{bytes, bounded_queue_edits, bounded_parameters, free_queue_edits, bounded_limits, free_limits, row_edits};
 ghost use Rattle.nqs_rules.specs.Step.{completed};
 ghost use Rattle.nqs_worked_tables.specs.Bounds.{edits_of_each_class, kept_jobs, asked_jobs, carried_ones, kept_changes, lost_changes, kept_commands};
-ghost use Rattle.nqs_worked_tables.specs.Bounds.{pathed, pathless, lost_commands, kept_bodies, lost_bodies, kept_events, lost_events};
+ghost use Rattle.nqs_worked_tables.specs.Bounds.{script_changes, output_changes, other_changes, are_short_with, pathed, pathless, asked};
+ghost use Rattle.nqs_worked_tables.specs.Bounds.{lost_commands, kept_bodies, lost_bodies, kept_events, lost_events};
 
 /// The numbers of edits: priorities to 63, limits of what runs to 10,000, waits from 1 to 86,400
 /// seconds.
@@ -46,23 +49,29 @@ pub fn default_paths_stand_in_the_folder()
     ensures stated_error { map (λ folder. (completed 7 folder pathed).err) (None ∷ Some (codes "ann") ∷ []) ≡ codes "e" ∷ codes "e" ∷ [] }
 {}
 
-/// The values of each kind of change.
+/// The values of each kind of change, and how much it may store: a script has 1,048,576 bytes at
+/// most, an output 32,768.
 pub fn changes_have_bounds()
     ensures kept { map is_sane_change kept_changes ≡ replicate 28 true }
     ensures lost { map is_sane_change lost_changes ≡ replicate 15 false }
+    ensures scripts { map (λ n. are_short_with n script_changes) (1048576 ∷ 1048577 ∷ []) ≡ replicate 3 true ∷ replicate 3 false ∷ [] }
+    ensures outputs { map (λ n. are_short_with n output_changes) (32768 ∷ 32769 ∷ []) ≡ replicate 2 true ∷ replicate 2 false ∷ [] }
+    ensures others { are_short_with 1048577 other_changes ≡ replicate 20 true }
 {}
 
-/// Scripts to 32,768 bytes, outputs of an end to 16,384 each, numbers from 1 on, senders and
-/// requests of hosts of the site.
+/// Scripts to 1,048,576 bytes, outputs that wait to 32,768, those of an end to 16,384 each, numbers
+/// from 1 on, senders and requests of hosts of the site.
 pub fn events_have_bounds()
     ensures commands { map is_sane_command kept_commands ≡ replicate 9 true }
-    ensures no_commands { map is_sane_command lost_commands ≡ replicate 3 false }
+    ensures no_commands { map is_sane_command lost_commands ≡ replicate 2 false }
+    ensures scripts { (script : List ℕ) → is_sane_command (asked pathed script) ≡ nat_le (length script) 1048576 }
     ensures refusals { map is_offer_refusal (3 ∷ 19 ∷ 21 ∷ 28 ∷ 29 ∷ 31 ∷ 32 ∷ 33 ∷ []) ≡ replicate 8 true }
     ensures other_refusals { map is_offer_refusal (0 ∷ 1 ∷ 2 ∷ 4 ∷ 5 ∷ 6 ∷ 7 ∷ 8 ∷ 9 ∷ 10 ∷ 11 ∷ 12 ∷ 13 ∷ 14 ∷ 15 ∷ 16 ∷ 17 ∷ 18 ∷ 20 ∷ 22 ∷ 23 ∷ 24 ∷ 25 ∷ 26
         ∷ 27 ∷ 30 ∷ 34 ∷ []) ≡ replicate 27 false }
     ensures places { map (λ n. is_of_site 2 (host n)) (0 ∷ 1 ∷ 2 ∷ []) ≡ true ∷ true ∷ false ∷ [] }
-    ensures bodies { map (is_sane_body 2) kept_bodies ≡ replicate 15 true }
-    ensures no_bodies { map (is_sane_body 2) lost_bodies ≡ replicate 11 false }
+    ensures bodies { map (is_sane_body 2) kept_bodies ≡ replicate 16 true }
+    ensures no_bodies { map (is_sane_body 2) lost_bodies ≡ replicate 10 false }
+    ensures offers { (script : List ℕ) → is_sane_body 2 (body.Offer 1 1 (codes "q") far_carried script) ≡ nat_le (length script) 1048576 }
     ensures events { map (is_sane_event 2) kept_events ≡ replicate 7 true }
     ensures no_events { map (is_sane_event 2) lost_events ≡ replicate 5 false }
 {}

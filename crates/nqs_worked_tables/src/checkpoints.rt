@@ -19,7 +19,8 @@ pub fn roots_name_journals()
     ensures resting { map resting ([] ∷ (0 ∷ []) ∷ (1 ∷ []) ∷ (2 ∷ 1 ∷ []) ∷ (7 ∷ []) ∷ []) ≡ Second ∷ Second ∷ First ∷ Second ∷ First ∷ [] }
     ensures turned { map turned ([] ∷ (0 ∷ []) ∷ (1 ∷ []) ∷ (7 ∷ 5 ∷ []) ∷ (254 ∷ 5 ∷ 6 ∷ []) ∷ [])
         ≡ (1 ∷ []) ∷ (1 ∷ []) ∷ (0 ∷ []) ∷ (0 ∷ 5 ∷ []) ∷ (1 ∷ 5 ∷ 6 ∷ []) ∷ [] }
-    ensures due { map is_due (0 ∷ 4095 ∷ 4096 ∷ 4097 ∷ []) ≡ false ∷ false ∷ true ∷ true ∷ [] }
+    ensures due { map (is_due false) (0 ∷ 4095 ∷ 4096 ∷ 4097 ∷ []) ++ map (is_due true) (0 ∷ 4095 ∷ 4096 ∷ [])
+        ≡ false ∷ false ∷ true ∷ true ∷ true ∷ true ∷ true ∷ [] }
     ensures same { map (names_same []) ((4 ∷ []) ∷ (1 ∷ []) ∷ []) ++ map (names_same (1 ∷ [])) ((0 ∷ []) ∷ (255 ∷ []) ∷ [] ∷ [])
         ≡ true ∷ false ∷ false ∷ true ∷ false ∷ [] }
 {}
@@ -121,6 +122,7 @@ pub fn changes_turn_over()
       calls = record { root = 3; first = 2; second = 9; spool = 6 };
       root = 1 ∷ 9 ∷ [];
       records = 1;
+      is_old = false;
     } }
     ensures used_back { used [] full_house (record (new_host one_host 0) {
       tear = New;
@@ -137,6 +139,24 @@ pub fn changes_turn_over()
       calls = record { root = 3; first = 8; second = 3; spool = 4 };
       root = 0 ∷ [];
       records = 1;
+      is_old = false;
+    } }
+    ensures carried_over { used [] full_house (record (new_host one_host 0) {
+      tear = New;
+      fuses = first_fuses;
+      calls = record { root = 1; first = 2; second = 3; spool = 4 };
+      records = 2;
+      is_old = true;
+    }) ≡ record {
+      up = true;
+      state = full_house;
+      told = replicate 2 (formatted (host 0) one_host);
+      tear = New;
+      fuses = record { root = Some 9; first = Some 12; second = Some 7; spool = Some 14 };
+      calls = record { root = 3; first = 2; second = 9; spool = 4 };
+      root = 1 ∷ [];
+      records = 1;
+      is_old = false;
     } }
     ensures disks { map (λ disk. burnt_at disk 4 first_fuses) (Root ∷ First ∷ Second ∷ Spool ∷ [])
         ≡ record first_fuses { root = Some 7 } ∷ record first_fuses { first = Some 8 } ∷ record first_fuses { second = Some 9 }
@@ -153,5 +173,6 @@ pub fn changes_turn_over()
       calls = no_calls;
       root = 9 ∷ [];
       records = 41;
+      is_old = false;
     } }
 {}

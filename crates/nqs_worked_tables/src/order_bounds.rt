@@ -100,7 +100,9 @@ pub fn numbers_have_bounds()
     ensures files { map (is_file_right staging) (a_file 1 ∷ a_file 2 ∷ a_file 0 ∷ a_file 3 ∷ record (a_file 1) { path = bad_path } ∷ [])
         ≡ true ∷ true ∷ false ∷ false ∷ false ∷ [] }
     ensures parts { map (are_parts_short length) (with_part 32768) ≡ replicate 4 true }
-    ensures long_parts { map (are_parts_short length) (with_part 32769) ≡ replicate 4 false }
+    ensures long_outputs { map (are_parts_short length) (with_part 32769) ≡ true ∷ true ∷ false ∷ false ∷ [] }
+    ensures long_scripts { map (are_parts_short (λ bytes. 1048576)) (with_part 1) ≡ true ∷ true ∷ false ∷ false ∷ [] }
+    ensures long_parts { map (are_parts_short (λ bytes. 1048577)) (with_part 1) ≡ replicate 4 false }
 {}
 
 /// At every moment: who may be doomed and held, that what routes is offered, that a promise is

@@ -56,6 +56,7 @@ pub fn lines_are_told()
         ∷ codes "packet 7 alpha beta ANSWER 9"
         ∷ codes "packet 7 alpha beta ENDED 9"
         ∷ codes "packet 7 alpha beta ENDEDACK 9"
+        ∷ codes "packet 7 alpha beta PIECE 9"
         ∷ []) }
     ensures table { told_each (table_of_each ∷ []) ≡ (
         codes "table 5"

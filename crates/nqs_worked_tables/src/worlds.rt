@@ -52,6 +52,7 @@ pub fn calls_are_counted()
           calls = record { root = 1; first = 6; second = 3; spool = 6 };
           root = [];
           records = 3;
+          is_old = false;
         } }
     ensures stopped { stopped full_house (record (new_host one_host 0)
         { tear = New; fuses = first_fuses; calls = record { root = 1; first = 2; second = 3; spool = 4 } })
@@ -64,6 +65,7 @@ pub fn calls_are_counted()
           calls = record { root = 0; first = 0; second = 0; spool = 0 };
           root = [];
           records = 2;
+          is_old = false;
         } }
 {}
 
@@ -125,13 +127,13 @@ pub fn hosts_go_up_and_down()
 pub fn outputs_are_seen()
     ensures kinds { map body_kind (body.Offer 1 1 (codes "q") far_carried [] ∷ body.Ready 1 ∷ body.Refused 1 3 ∷ body.Commit 1 ∷ body.Done 1 ∷ body.Inquire 1
         ∷ body.Abort 1 ∷ body.Stage 1 (codes "o") [] ∷ body.Staged 1 ∷ body.Ask 1 2 (codes "ann") Qmgr [] [] ∷ body.Answer 1 true []
-        ∷ body.Ended 1 (request 2 0) 1 0 [] [] ∷ body.EndedAck (request 2 0) 1 ∷ [])
+        ∷ body.Ended 1 (request 2 0) 1 0 [] [] ∷ body.EndedAck (request 2 0) 1 ∷ body.Piece 1 0 7 0 2 [] ∷ [])
         ≡ kind.Offer ∷ kind.Ready ∷ kind.Refused ∷ kind.Commit ∷ kind.Done ∷ kind.Inquire ∷ kind.Abort ∷ kind.Stage ∷ kind.Staged ∷ kind.Ask ∷ kind.Answer
-        ∷ kind.Ended ∷ kind.EndedAck ∷ [] }
+        ∷ kind.Ended ∷ kind.EndedAck ∷ kind.Piece ∷ [] }
     ensures numbers { map body_number (body.Offer 1 1 (codes "q") far_carried [] ∷ body.Ready 2 ∷ body.Refused 3 19 ∷ body.Commit 4 ∷ body.Done 5
         ∷ body.Inquire 6 ∷ body.Abort 7 ∷ body.Stage 8 (codes "o") [] ∷ body.Staged 9 ∷ body.Ask 1 2 (codes "ann") Qmgr [] [] ∷ body.Answer 1 true []
-        ∷ body.Ended 1 (request 2 0) 1 0 [] [] ∷ body.EndedAck (request 2 0) 1 ∷ [])
-        ≡ 1 ∷ 2 ∷ 3 ∷ 4 ∷ 5 ∷ 6 ∷ 7 ∷ 8 ∷ 9 ∷ 0 ∷ 0 ∷ 0 ∷ 0 ∷ [] }
+        ∷ body.Ended 1 (request 2 0) 1 0 [] [] ∷ body.EndedAck (request 2 0) 1 ∷ body.Piece 1 0 7 0 2 [] ∷ [])
+        ≡ 1 ∷ 2 ∷ 3 ∷ 4 ∷ 5 ∷ 6 ∷ 7 ∷ 8 ∷ 9 ∷ 0 ∷ 0 ∷ 0 ∷ 0 ∷ 0 ∷ [] }
     ensures sent { map (seen_output (host 1) 7) (out.Send (sent 0 1 4) ∷ out.Reply 9 77 reply.Done ∷ out.Kill (request 2 0) 3 ∷ out.Ended (request 2 0) 3 4
         ∷ out.Unlaunched (request 2 0) 3 ∷ out.Again (request 2 0) ∷ out.Lost (request 2 0) ∷ out.File 4 (codes "o") (codes "abc")
         ∷ out.Ack 9 (request 2 0) 3 ∷ [])

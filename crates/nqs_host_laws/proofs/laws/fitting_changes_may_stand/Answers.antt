@@ -38,7 +38,7 @@ pub returns-in-Submitted : goal.returns-in-Submitted
 returns-in-Submitted c =
     let a = c.in-Submitted in
     let x = rw a.is at c.requires.extents in
-    rw a.is (c.name_stands.ensures, c.job_stands.ensures (rw a.is at c.requires.sane), x.0)
+    rw a.is (c.name_stands.ensures, c.job_stands.ensures (rw a.is at c.requires.sane), (x.0, rw a.is at c.requires.short))
 
 pub returns-in-Deleted : goal.returns-in-Deleted
 returns-in-Deleted c =
@@ -66,7 +66,7 @@ returns-in-Ended c =
     let k = and_parts (nat_le (length a.outputs) 2) (list_all has_path a.outputs) (rw a.is at c.requires.sane) in
     rw a.is (
       row_id (content c.args.state.now) c.requires.order runs_now a.id (rw a.is at c.requires.fits),
-      (k.0, parts_stand a.outputs k.1 (rw a.is at c.requires.extents)),
+      (k.0, parts_stand a.outputs k.1 (rw a.is at c.requires.extents) (rw a.is at c.requires.short)),
     )
 
 pub returns-in-Unlaunched : goal.returns-in-Unlaunched
@@ -133,7 +133,7 @@ returns-in-OldPromised c =
       c.number_stands-in-OldPromised.ensures,
       c.name_stands-in-OldPromised.ensures,
       c.carried_stands.ensures,
-      x.0,
+      (x.0, rw a.is at c.requires.short),
     )
 
 pub returns-in-Promised : goal.returns-in-Promised
@@ -148,7 +148,7 @@ returns-in-Promised c =
       (c.number_stands-in-Promised.ensures, low),
       c.name_stands-in-Promised.ensures,
       c.carried_stands-in-Promised.ensures,
-      x.0,
+      (x.0, rw a.is at c.requires.short),
     )
 
 pub returns-in-Accepted : goal.returns-in-Accepted
@@ -192,7 +192,7 @@ returns-in-StageGot c =
           (rw a.is at c.requires.fits),
       c.number_stands-in-StageGot.ensures,
       path_stands a.path (rw a.is at c.requires.sane),
-      x.0,
+      (x.0, rw a.is at c.requires.short),
     )
 
 pub returns-in-StageGone : goal.returns-in-StageGone

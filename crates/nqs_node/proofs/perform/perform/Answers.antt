@@ -100,7 +100,7 @@ returns-in-Some-clause-fills g c =
       as_many = fills.as_many;
       alike = fills.alike;
       filled = λ yes host told live. anyway c.keep.result (fills.filled yes host told live);
-      short = λ few was. anyway c.keep.result (fills.short few was);
+      short = λ was. anyway c.keep.result (fills.short was);
     }
 
 pub returns-in-Some-clause-performs : goal.returns-in-Some-clause-performs

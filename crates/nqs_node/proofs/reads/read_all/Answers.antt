@@ -1,6 +1,5 @@
-use Rattle.std.proofs.Common.{IsTrue, ◌+◌, [], length, drop, refl, sym, ap, subst, ◌∙◌, arith, get_or}
+use Rattle.std.proofs.Common.{IsTrue, ◌+◌, drop, length, refl, sym, ap, subst, ◌∙◌, get_or, arith}
 use Rattle.std.specs.List.{list_all}
-use Rattle.std.proofs.lemmas.Bool.{leb-true, le-leb}
 use Rattle.std.proofs.lemmas.List.{at_drop_more, at_drop_all}
 use Rattle.std.proofs.lemmas.Result.{err_from_is_err_and}
 use Rattle.nqs_base.specs.Extents.{extent_bytes}
@@ -10,7 +9,7 @@ use Rattle.nqs_outside.specs.History.{History, content}
 use Rattle.nqs_rules.specs.Edits.{change_at}
 use Rattle.nqs_rules.specs.Stepped.{with_bytes}
 use Rattle.nqs_store.specs.Stores.{bytes_of}
-use Rattle.nqs_node.specs.Reading.{read_into, IsLiveRead, IsShortRead, sends_short, AreShort}
+use Rattle.nqs_node.specs.Reading.{read_into, zeros, IsLiveRead, sends_short, AreShort}
 use Rattle.nqs_node.proofs.Carrying.{read_short}
 use Rattle.nqs_node.proofs.Places.{no_error, all_at, reads_none, reads_then, failed_since}
 use Rattle.nqs_store.specs.Reads.{of_spool}
@@ -41,7 +40,7 @@ returns-in_err-read_one-clause-fills g c =
       as_many = one.as_many ∙ v.as_many;
       alike = one.alike ∙ v.alike;
       filled = λ yes host told live. tt;
-      short = λ few was. tt;
+      short = λ was. tt;
     })
 
 pub returns-clause-spool : goal.returns-clause-spool
@@ -71,13 +70,11 @@ loop-read-preserved g c =
           let bytes = ap (λ (h : History). extent_bytes (content h) x.extent) (v.reads.same yes Spool) in
           ap (read_into f (drop (i + 1) reads)) (read ∙ ap (λ b. change_at x.output (with_bytes b) outputs) bytes)
           ∙ sym (at_drop_more (λ rs. read_into f rs outputs) reads i none c.loop-read-test.true) ∙ v.filled yes host told all;
-      short = λ few was.
+      short = λ was.
           let read = c.in_ok-read_one.ensures.fills.few in
-          let small = leb-true x.extent.length 32768 (all_at IsShortRead reads i none few c.loop-read-test.true) in
-          let script = le-leb (length read.0) 32768 (omega (arith, read.1, small)) in
-          let before = sym (at_drop_more (λ rs. list_all sends_short (read_into (λ _. []) rs outputs)) reads i none c.loop-read-test.true) ∙ v.short few was in
-          subst (λ os. AreShort (read_into (λ _. []) (drop (i + 1) reads) os)) (sym read.2)
-          (read_short (drop (i + 1) reads) x.output read.0 script outputs before);
+          let before = sym (at_drop_more (λ rs. list_all sends_short (read_into zeros rs outputs)) reads i none c.loop-read-test.true) ∙ v.short was in
+          subst (λ os. AreShort (read_into zeros (drop (i + 1) reads) os)) (sym read.2)
+          (read_short (drop (i + 1) reads) x.output x.extent read.0 read.1 outputs before);
       as_many = c.read_one.ensures.fills.as_many ∙ v.as_many;
       alike = c.read_one.ensures.fills.alike ∙ v.alike;
       reads = reads_then _ _ _ v.reads c.read_one.ensures.spool.reads;
@@ -97,15 +94,15 @@ returns-clause-fills g c =
       alike = v.alike;
       filled = λ yes host told all.
           sym (at_drop_all (λ rs. read_into f rs outputs) c.args.reads.now c.loop-read.read-index c.loop-read-test.false) ∙ v.filled yes host told all;
-      short = λ few was.
-          sym (at_drop_all (λ rs. list_all sends_short (read_into (λ _. []) rs outputs)) c.args.reads.now c.loop-read.read-index c.loop-read-test.false)
-          ∙ v.short few was;
+      short = λ was.
+          sym (at_drop_all (λ rs. list_all sends_short (read_into zeros rs outputs)) c.args.reads.now c.loop-read.read-index c.loop-read-test.false)
+          ∙ v.short was;
     }
 
 pub loop-read-init : goal.loop-read-init
 loop-read-init g c = record {
   filled = λ yes host told all. refl;
-  short = λ few was. was;
+  short = λ was. was;
   as_many = refl;
   alike = refl;
   reads = reads_none _;

@@ -1,10 +1,11 @@
-use Rattle.std.proofs.Common.{◌≡◌, rules, ap, sym, ◌∙◌, subst, refl, [], inl, arith}
+use Rattle.std.proofs.Common.{◌≡◌, rules, ap, sym, ◌∙◌, subst, refl, List, [], inl, arith}
+use Rattle.nqs_pieces.specs.declared.gather.Gathered.{Gathered}
 use Rattle.nqs_types.specs.declared.ids.HostId.{HostId}
 use Rattle.nqs_node.specs.Nodes.{content_of}
 use Rattle.nqs_outside.specs.Causes.{Rose}
 use Rattle.nqs_serve.specs.Ends.{Ends}
 use Rattle.nqs_serve.specs.Events.{Here}
-use Rattle.nqs_serve.specs.Runs.{idle, none_begun, Ran}
+use Rattle.nqs_serve.specs.Runs.{idle, none_begun, AreHeard, Ran}
 use Rattle.nqs_serve.specs.Nodes.{here_of}
 use Rattle.nqs_serve.specs.Tellings.{Telling, telling}
 use Rattle.nqs_serve.specs.declared.daemon.ServeEnd.TheVariants as end
@@ -26,6 +27,7 @@ returns-in-Err-clause-run g c = λ tells s told.
       [],
       idle s,
       none_begun,
+      tt,
       ran_none here (idle s) _,
       ends,
       ends_tell here node node s [] tt (idle s) none_begun (end.Memory c.into.result) c.args.turns [] refl ends,
@@ -43,6 +45,7 @@ returns-clause-run g c = λ tells s told.
     let outlet : lent.outlet.now ≡ c.outlet-1.given.0 = search rules in
     let clock : lent.clock.now ≡ c.clock-1.given.0 = search rules in
     let ran = c.serve_lent.ensures.run s here (tells, told) (ap at (sym (ap (λ h. h.me) c.state.ensures))) in
+    let gather_is : c.new-gather.result ≡ [] = c.new-gather.ensures in
     let was : Telling = telling (g.W.Wire.traffic c.args.wire.now) (g.L.Launcher.asked c.args.launcher.now) (g.P.Printer.prints c.args.printer.now)
     (g.O.Outlet.filings c.args.outlet.now) (g.C.Clock.given c.args.clock.now) in
     let run : Ran here ran.0 (idle s) ran.1 ran.2 was
@@ -51,13 +54,15 @@ returns-clause-run g c = λ tells s told.
     subst (Ran here ran.0 (idle s) ran.1 ran.2 was)
     (λ i. telling (g.W.Wire.traffic (wire i)) (g.L.Launcher.asked (launcher i)) (g.P.Printer.prints (printer i)) (g.O.Outlet.filings (outlet i))
     (g.C.Clock.given (clock i)))
-    ran.3 in (
+    ran.4 in
+    let heard = subst (λ (g : List Gathered). AreHeard here g ran.0) gather_is ran.3 in (
       ran.0,
       ran.1,
       ran.2,
+      heard,
       run,
-      ran.4,
-      ends_tell here node c.serve_lent.new.node s ran.0 ran.3.run ran.1 ran.2 c.serve_lent.result c.args.turns _ ran.3.leads ran.4,
+      ran.5,
+      ends_tell here node c.serve_lent.new.node s ran.0 ran.4.run ran.1 ran.2 c.serve_lent.result c.args.turns _ ran.4.leads ran.5,
     )
 
 pub returns-clause-wire_fault : goal.returns-clause-wire_fault

@@ -3,17 +3,18 @@ use Rattle.std.specs.Option.{option_to_list}
 use Rattle.nqs_rules.specs.Sane.{is_sane_event}
 use Rattle.nqs_rules.specs.Stepped.{Stepped}
 use Rattle.nqs_node.specs.Carried.{Kept}
-use Rattle.nqs_serve.specs.Events.{Here, event_in, stops_by}
+use Rattle.nqs_serve.specs.Events.{Here, stops_by}
+use Rattle.nqs_serve.specs.Gathers.{heard, taken_by, IfTaken}
 use Rattle.nqs_serve.specs.Keeping.{Keeps, KeepsTill, KeptBehind}
 use Rattle.nqs_serve.specs.Steps.{after_event, calls}
 use Rattle.nqs_serve.specs.Runs.{received, took, turn, idle, none_begun, begun, event_back, run_calls}
 use Rattle.nqs_serve.specs.Ends.{Ends, Receives, stops, cuts_off}
-use Rattle.nqs_serve.proofs.Acts.{ran_received, ran_cut, ran_then, tended_grew, ran_turn, turn_stops, turn_calls}
+use Rattle.nqs_serve.proofs.Acts.{ran_received, ran_cut, ran_then, tended_grew, ran_turn, turn_stops, turn_calls, one_heard}
 use Rattle.nqs_serve.proofs.Ending.{one_receive, cut_ends, cut_early, disk_cut, wire_no_disk, memory_no_disk}
+use Rattle.nqs_serve.proofs.Tellings.{adds_none}
 use Rattle.nqs_serve.proofs.Keeping.{kept_none, kept_both, kept_then, behind_both}
 use Rattle.nqs_serve.proofs.Leaving.{none_left, then_left, left_as, left_by, no_error}
 use Rattle.nqs_serve.specs.Sends.{is_right_event}
-use Rattle.nqs_serve.specs.Sorted.{taken_of, IfEvent}
 use Rattle.nqs_serve.proofs.daemon.turn.Goals as goal
 
 pub returns-in-Ok-Ignored-clause-ok : goal.returns-in-Ok-Ignored-clause-ok
@@ -21,12 +22,34 @@ returns-in-Ok-Ignored-clause-ok g c = λ s here knows same.
     let came = c.in-Ok-Ignored.ensures.came in
     let at : List (List ℕ) → Here = λ names. record { me = c.args.me; site = names } in
     let is_here : at c.as_slice-site.result.now ≡ here = ap at (c.as_slice-site.ensures ∙ ap (λ h. h.site) c.state.ensures) ∙ sym same in
-    let none : None ≡ event_in here came.0 = sym (ap taken_of c.in-Ok-Ignored.field-0-is) ∙ came.1 ∙ ap (λ h. event_in h came.0) is_here in (
-      received came.0 ∷ [],
+    let g0 = c.args.room.now.gather in
+    let none : None ≡ (heard here g0 came.0).event = sym (ap taken_by c.in-Ok-Ignored.field-0-is) ∙ came.1 ∙ ap (λ h. (heard h g0 came.0).event) is_here in
+    let were = one_heard here g0 _ came.0 None [] none (came.2 ∙ ap (λ h. (heard h g0 came.0).gathered) is_here) refl in (
+      received came.0 None ∷ [],
       s,
       knows,
-      ap (λ o. stops_by o s ∷ []) (sym none),
-      ran_received here s came.0 None _ _ none (tended_grew here came.0 _ _ _ came.2 c.ignored.ensures.asked),
+      refl,
+      were.0,
+      were.1,
+      ran_received here s came.0 None _ _ (tended_grew here came.0 None _ _ _ came.3 c.ignored.ensures.asked),
+      kept_none c.args.node.now s knows,
+    )
+
+pub returns-in-Ok-Piece-clause-ok : goal.returns-in-Ok-Piece-clause-ok
+returns-in-Ok-Piece-clause-ok g c = λ s here knows same.
+    let came = c.in-Ok-Piece.ensures.came in
+    let at : List (List ℕ) → Here = λ names. record { me = c.args.me; site = names } in
+    let is_here : at c.as_slice-site.result.now ≡ here = ap at (c.as_slice-site.ensures ∙ ap (λ h. h.site) c.state.ensures) ∙ sym same in
+    let g0 = c.args.room.now.gather in
+    let none : None ≡ (heard here g0 came.0).event = sym (ap taken_by c.in-Ok-Piece.field-0-is) ∙ came.1 ∙ ap (λ h. (heard h g0 came.0).event) is_here in
+    let were = one_heard here g0 _ came.0 None [] none (came.2 ∙ ap (λ h. (heard h g0 came.0).gathered) is_here) refl in (
+      received came.0 None ∷ [],
+      s,
+      knows,
+      refl,
+      were.0,
+      were.1,
+      ran_received here s came.0 None _ _ (tended_grew here came.0 None _ _ _ came.3 (adds_none _)),
       kept_none c.args.node.now s knows,
     )
 
@@ -37,6 +60,7 @@ returns-in-Err-Wire-clause-err g c = λ s here knows same.
       [],
       idle s,
       none_begun,
+      tt,
       ran_cut here (idle s) none_begun _ _ lost.0,
       (refl, refl, knows.1, refl, omega arith, kept.0),
     )
@@ -44,25 +68,27 @@ returns-in-Err-Wire-clause-err g c = λ s here knows same.
 pub returns-in-Err-Memory-clause-err : goal.returns-in-Err-Memory-clause-err
 returns-in-Err-Memory-clause-err g c = λ s here knows same.
     let came = c.in-Err-Memory.ensures.cut (ap Err c.in-Err-Memory.field-0-is) in
-    let kept = kept_none c.args.node.now s knows in (
-      received came.0 ∷ [],
-      turn s (option_to_list (event_in here came.0)),
+    let kept = kept_none c.args.node.now s knows in
+    let e = (heard here c.args.room.now.gather came.0).event in (
+      received came.0 e ∷ [],
+      turn s (option_to_list e),
       none_begun,
-      ran_received here s came.0 (event_in here came.0) _ _ refl came.1,
-      ((s, knows.1, inl (refl, refl, kept.0)), one_receive (stops_by (event_in here came.0) s)),
+      (refl, tt),
+      ran_received here s came.0 e _ _ came.1,
+      ((s, knows.1, inl (refl, refl, kept.0)), one_receive (stops_by e s)),
     )
 
 pub take_event-taken-requires-clause-sane : goal.take_event-taken-requires-clause-sane
 take_event-taken-requires-clause-sane g c =
     let some : IsTrue (is_sane_event (length c.as_slice-site.result.now) c.in-Ok-Event.event) =
-    subst (λ o. IfEvent o (λ e. IsTrue (is_sane_event (length c.as_slice-site.result.now) e))) c.in-Ok-Event.field-0-is c.in-Ok-Event.ensures.sane in
+    subst (λ o. IfTaken o (λ e. IsTrue (is_sane_event (length c.as_slice-site.result.now) e))) c.in-Ok-Event.field-0-is c.in-Ok-Event.ensures.sane in
     subst (λ (names : List (List ℕ)). IsTrue (is_sane_event (length names) c.in-Ok-Event.event))
     (c.as_slice-site.ensures ∙ ap (λ h. h.site) c.state.ensures) some
 
 pub take_event-taken-requires-clause-right : goal.take_event-taken-requires-clause-right
 take_event-taken-requires-clause-right g c =
     let some : IsTrue (is_right_event (length c.as_slice-site.result.now) c.in-Ok-Event.event) =
-    subst (λ o. IfEvent o (λ e. IsTrue (is_right_event (length c.as_slice-site.result.now) e))) c.in-Ok-Event.field-0-is c.in-Ok-Event.ensures.right in
+    subst (λ o. IfTaken o (λ e. IsTrue (is_right_event (length c.as_slice-site.result.now) e))) c.in-Ok-Event.field-0-is c.in-Ok-Event.ensures.right in
     subst (λ (names : List (List ℕ)). IsTrue (is_right_event (length names) c.in-Ok-Event.event))
     (c.as_slice-site.ensures ∙ ap (λ h. h.site) c.state.ensures) some
 
@@ -72,23 +98,25 @@ returns-in-Err-clause-err g c = λ s here knows same.
     let came = c.in-Ok-Event.ensures.came in
     let at : List (List ℕ) → Here = λ names. record { me = c.args.me; site = names } in
     let is_here : at c.as_slice-site.result.now ≡ here = ap at (c.as_slice-site.ensures ∙ ap (λ h. h.site) c.state.ensures) ∙ sym same in
-    let some : Some e ≡ event_in here came.0 = sym (ap taken_of c.in-Ok-Event.field-0-is) ∙ came.1 ∙ ap (λ h. event_in h came.0) is_here in
+    let g0 = c.args.room.now.gather in
+    let some : Some e ≡ (heard here g0 came.0).event = sym (ap taken_by c.in-Ok-Event.field-0-is) ∙ came.1 ∙ ap (λ h. (heard h g0 came.0).event) is_here in
     let cut = c.in-Err.ensures.cut s here knows same in
-    let bs = stops_by (event_in here came.0) s ∷ [] in
+    let bs = stops_by (Some e) s ∷ [] in
     let old = c.args.node.now in
     let new = c.take_event-taken.new.node in
     let t = turn s (e ∷ []) in (
-      received came.0 ∷ [],
+      received came.0 (Some e) ∷ [],
       t,
       begun cut.0 cut.1,
-      ran_then here (received came.0 ∷ []) [] (idle s) t _ (begun cut.0 cut.1) _ _ _
-          (ran_received here s came.0 (Some e) _ _ some (tended_grew here came.0 _ _ _ came.2 c.tend_at.ensures.asked))
+      (some, tt),
+      ran_then here (received came.0 (Some e) ∷ []) [] (idle s) t _ (begun cut.0 cut.1) _ _ _
+          (ran_received here s came.0 (Some e) _ _ (tended_grew here came.0 (Some e) _ _ _ came.3 c.tend_at.ensures.asked))
           (ran_cut here t (begun cut.0 cut.1) _ _ cut.4),
       subst (λ f. Ends old s [] f 1 bs t (begun cut.0 cut.1) new) (sym c.end_of.ensures)
           (cut_ends c.in-Err.cut bs t (begun cut.0 cut.1) old new s [] (KeepsTill old new s) (λ done failed kept. kept)
           (λ memory. let known = cut.2 (ap Err memory) in (known.1.0, known.1.1.1, inr (e, [], cut.0, refl, ap (begun cut.0) known.0, known.1.2)))
           (λ which disk. (e, [], cut.0, cut.1, refl, refl, cut.3 which (ap Err disk)))
-          (one_receive (stops_by (event_in here came.0) s))),
+          (one_receive (stops_by (Some e) s))),
     )
 
 pub returns-in-Err-take_back-clause-err : goal.returns-in-Err-take_back-clause-err
@@ -97,11 +125,12 @@ returns-in-Err-take_back-clause-err g c = λ s here knows same.
     let came = c.in-Ok-Event.ensures.came in
     let at : List (List ℕ) → Here = λ names. record { me = c.args.me; site = names } in
     let is_here : at c.as_slice-site.result.now ≡ here = ap at (c.as_slice-site.ensures ∙ ap (λ h. h.site) c.state.ensures) ∙ sym same in
-    let some : Some e ≡ event_in here came.0 = sym (ap taken_of c.in-Ok-Event.field-0-is) ∙ came.1 ∙ ap (λ h. event_in h came.0) is_here in
+    let g0 = c.args.room.now.gather in
+    let some : Some e ≡ (heard here g0 came.0).event = sym (ap taken_by c.in-Ok-Event.field-0-is) ∙ came.1 ∙ ap (λ h. (heard h g0 came.0).event) is_here in
     let ok = c.in-Ok.ensures.ok s here knows same in
     let cut = c.in-Err-take_back.ensures.cut (after_event ok.0 e s) here ok.3 (same ∙ ap at (sym c.in-Ok.ensures.leaves.site)) in
-    let acts = received came.0 ∷ took ok.0 ok.1 ∷ cut.0 in
-    let one = turn_stops here s came.0 ok.0 ok.1 cut.0 cut.3 in
+    let acts = received came.0 (Some e) ∷ took ok.0 ok.1 ∷ cut.0 in
+    let one = turn_stops here s came.0 (Some e) ok.0 ok.1 cut.0 cut.3 in
     let bs = stops here (idle s) acts in
     let old = c.args.node.now in
     let mid = c.take_event-taken.new.node in
@@ -109,7 +138,7 @@ returns-in-Err-take_back-clause-err g c = λ s here knows same.
     let back = c.take_event-taken.new.outbox.back.items in
     let ys = run_calls here (turn (after_event ok.0 e s) (map event_back back)) cut.0 in
     let xs = run_calls here (idle s) acts in
-    let all : xs ≡ calls ok.0 e s ++ ys = turn_calls here came.0 ok.0 ok.1 cut.0 s e c.clear.new.self.items back some c.clear.ensures.items ok.2 in
+    let all : xs ≡ calls ok.0 e s ++ ys = turn_calls here came.0 ok.0 ok.1 cut.0 s e c.clear.new.self.items back c.clear.ensures.items ok.2 in
     let lift : (done : List (Stepped (List ℕ))) (failed : Kept) → KeptBehind mid new (after_event ok.0 e s) ys done failed
     → KeptBehind old new s xs done failed =
     λ done failed kept.
@@ -117,13 +146,14 @@ returns-in-Err-take_back-clause-err g c = λ s here knows same.
       acts,
       cut.1,
       cut.2,
-      ran_turn here came.0 ok.0 ok.1 cut.0 s e c.clear.new.self.items _ cut.1 cut.2 _ _ _ _ some c.clear.ensures.items ok.2 ok.4
-          (tended_grew here came.0 _ _ _ came.2 c.tend_at.ensures.asked) ok.5 cut.6,
+      (one_heard here g0 _ came.0 (Some e) (took ok.0 ok.1 ∷ cut.0) some refl cut.3).0,
+      ran_turn here came.0 ok.0 ok.1 cut.0 s e c.clear.new.self.items _ cut.1 cut.2 _ _ _ _ c.clear.ensures.items ok.2 ok.4
+          (tended_grew here came.0 (Some e) _ _ _ came.3 c.tend_at.ensures.asked) ok.5 cut.6,
       subst (λ f. Ends old s xs f 1 bs cut.1 cut.2 new) (sym c.end_of-in-Err-take_back.ensures)
           (cut_ends c.in-Err-take_back.cut bs cut.1 cut.2 old new s xs (KeptBehind mid new (after_event ok.0 e s) ys) lift
           (λ memory. let known = cut.4 (ap Err memory) in (known.0, known.1.1, known.2))
           (λ which disk. cut.5 which (ap Err disk))
-          (subst (λ l. Receives 1 l) (sym one) (one_receive (stops_by (event_in here came.0) s)))),
+          (subst (λ l. Receives 1 l) (sym one) (one_receive (stops_by (Some e) s)))),
     )
 
 -- a cut is the end
@@ -138,6 +168,9 @@ returns-in-Err-take_back-clause-early g c = subst (λ f. IsTrue (cuts_off f)) (s
 
 pub returns-in-Ok-Ignored-clause-leaves : goal.returns-in-Ok-Ignored-clause-leaves
 returns-in-Ok-Ignored-clause-leaves g c = none_left _ _ _ (λ which. no_error _ _) c.requires.sound c.requires.running
+
+pub returns-in-Ok-Piece-clause-leaves : goal.returns-in-Ok-Piece-clause-leaves
+returns-in-Ok-Piece-clause-leaves g c = none_left _ _ _ (λ which. no_error _ _) c.requires.sound c.requires.running
 
 pub returns-in-Err-Wire-clause-leaves : goal.returns-in-Err-Wire-clause-leaves
 returns-in-Err-Wire-clause-leaves g c = none_left _ _ _ wire_no_disk c.requires.sound c.requires.running
@@ -162,21 +195,26 @@ returns-clause-ok g c = λ s here knows same.
     let came = c.in-Ok-Event.ensures.came in
     let at : List (List ℕ) → Here = λ names. record { me = c.args.me; site = names } in
     let is_here : at c.as_slice-site.result.now ≡ here = ap at (c.as_slice-site.ensures ∙ ap (λ h. h.site) c.state.ensures) ∙ sym same in
-    let some : Some e ≡ event_in here came.0 = sym (ap taken_of c.in-Ok-Event.field-0-is) ∙ came.1 ∙ ap (λ h. event_in h came.0) is_here in
+    let g0 = c.args.room.now.gather in
+    let some : Some e ≡ (heard here g0 came.0).event = sym (ap taken_by c.in-Ok-Event.field-0-is) ∙ came.1 ∙ ap (λ h. (heard h g0 came.0).event) is_here in
     let ok = c.in-Ok.ensures.ok s here knows same in
     let rest = c.in_default.ensures.ok (after_event ok.0 e s) here ok.3 (same ∙ ap at (sym c.in-Ok.ensures.leaves.site)) in
     let old = c.args.node.now in
     let mid = c.take_event-taken.new.node in
     let new = c.take_back.new.node in
     let back = c.take_event-taken.new.outbox.back.items in
-    let ys = run_calls here (turn (after_event ok.0 e s) (map event_back back)) rest.0 in (
-      received came.0 ∷ took ok.0 ok.1 ∷ rest.0,
+    let ys = run_calls here (turn (after_event ok.0 e s) (map event_back back)) rest.0 in
+    let grown = came.2 ∙ ap (λ h. (heard h g0 came.0).gathered) is_here in
+    let were = one_heard here g0 _ came.0 (Some e) (took ok.0 ok.1 ∷ rest.0) some grown rest.2 in (
+      received came.0 (Some e) ∷ took ok.0 ok.1 ∷ rest.0,
       rest.1,
       rest.3,
-      turn_stops here s came.0 ok.0 ok.1 rest.0 rest.2 ∙ ap (λ o. stops_by o s ∷ []) (sym some) ∙ ap (λ b. b ∷ []) (sym (c.in-Ok.ensures.halts s knows)),
-      ran_turn here came.0 ok.0 ok.1 rest.0 s e c.clear.new.self.items _ (idle rest.1) none_begun _ _ _ _ some c.clear.ensures.items ok.2 ok.4
-          (tended_grew here came.0 _ _ _ came.2 c.tend_at.ensures.asked) ok.5 rest.4,
+      turn_stops here s came.0 (Some e) ok.0 ok.1 rest.0 rest.2 ∙ ap (λ b. b ∷ []) (sym (c.in-Ok.ensures.halts s knows)),
+      were.0,
+      were.1,
+      ran_turn here came.0 ok.0 ok.1 rest.0 s e c.clear.new.self.items _ (idle rest.1) none_begun _ _ _ _ c.clear.ensures.items ok.2 ok.4
+          (tended_grew here came.0 (Some e) _ _ _ came.3 c.tend_at.ensures.asked) ok.5 rest.4,
       subst (λ (l : List (Stepped (List ℕ))). Keeps old new s l)
-          (sym (turn_calls here came.0 ok.0 ok.1 rest.0 s e c.clear.new.self.items back some c.clear.ensures.items ok.2))
+          (sym (turn_calls here came.0 ok.0 ok.1 rest.0 s e c.clear.new.self.items back c.clear.ensures.items ok.2))
           (kept_both old mid new s (calls ok.0 e s) ys ok.6 rest.5),
     )

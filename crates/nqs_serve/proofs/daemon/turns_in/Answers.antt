@@ -7,7 +7,7 @@ use Rattle.nqs_serve.specs.Keeping.{Keeps, KeepsTill, KeptBehind}
 use Rattle.nqs_serve.specs.Runs.{idle, none_begun, run_calls}
 use Rattle.nqs_serve.specs.Ends.{Ends, NoneStops, stops}
 use Rattle.nqs_serve.specs.declared.daemon.ServeEnd.TheVariants as end
-use Rattle.nqs_serve.proofs.Acts.{ran_none, ran_then, stops_then, calls_then}
+use Rattle.nqs_serve.proofs.Acts.{ran_none, ran_then, stops_then, calls_then, heard_on, gathered_on}
 use Rattle.nqs_serve.proofs.Ending.{none_both, ends_then}
 use Rattle.nqs_outside.proofs.Roses.{rose_since}
 use Rattle.nqs_serve.proofs.Keeping.{kept_none, run_then, run_both}
@@ -20,7 +20,7 @@ loop-left-init g c = record {
   room = c.requires.room;
   heard = refl;
   borrows = refl;
-  ran = λ s here knows same. ([], s, refl, omega arith, knows, ran_none here _ _, kept_none c.args.node.now s knows);
+  ran = λ s here knows same. ([], s, refl, omega arith, knows, tt, refl, ran_none here _ _, kept_none c.args.node.now s knows);
 }
 
 pub returns-in-Ok-true-clause-run : goal.returns-in-Ok-true-clause-run
@@ -28,18 +28,20 @@ returns-in-Ok-true-clause-run g c = λ s here knows same.
     let before = c.loop-left.invariant.ran s here knows same in
     let at : List (List ℕ) → Here = λ names. record { me = c.args.me; site = names } in
     let ok = c.in-Ok-true.ensures.ok before.1 here before.4 (same ∙ ap at (sym c.loop-left.invariant.leaves.site)) in
+    let g0 = c.args.room.now.gather in
     let xs = stops here (idle s) before.0 in
     let all : stops here (idle s) (before.0 ++ ok.0) ≡ xs ++ true ∷ [] =
-    stops_then here before.0 ok.0 (idle s) (idle before.1) before.5.leads
+    stops_then here before.0 ok.0 (idle s) (idle before.1) before.7.leads
     ∙ ap (λ (l : List Bool). xs ++ l) (ok.3 ∙ ap (λ b. b ∷ []) c.in-Ok-true.field-0-test) in
     let rest = run_calls here (idle before.1) ok.0 in
-    let both = run_both here c.args.node.now c.loop-left.node c.turn.new.node before.0 s [] (idle before.1) rest before.5.run before.5.leads before.6 ok.5 in
+    let both = run_both here c.args.node.now c.loop-left.node c.turn.new.node before.0 s [] (idle before.1) rest before.7.run before.7.leads before.8 ok.7 in
     let kept = subst (λ (l : List (Stepped (List ℕ))). Keeps c.args.node.now c.turn.new.node s l)
-    (sym (calls_then here before.0 ok.0 (idle s) (idle before.1) before.5.leads)) both in (
+    (sym (calls_then here before.0 ok.0 (idle s) (idle before.1) before.7.leads)) both in (
       before.0 ++ ok.0,
       idle ok.1,
       none_begun,
-      ran_then here before.0 ok.0 (idle s) (idle before.1) (idle ok.1) none_begun _ _ _ before.5 ok.4,
+      heard_on here g0 _ before.0 ok.0 before.5 before.6 ok.4,
+      ran_then here before.0 ok.0 (idle s) (idle before.1) (idle ok.1) none_begun _ _ _ before.7 ok.6,
       (
         refl,
         refl,
@@ -55,8 +57,9 @@ returns-in-Err-clause-run g c = λ s here knows same.
     let before = c.loop-left.invariant.ran s here knows same in
     let at : List (List ℕ) → Here = λ names. record { me = c.args.me; site = names } in
     let err = c.in-Err.ensures.err before.1 here before.4 (same ∙ ap at (sym c.loop-left.invariant.leaves.site)) in
+    let g0 = c.args.room.now.gather in
     let xs = stops here (idle s) before.0 in
-    let all = stops_then here before.0 err.0 (idle s) (idle before.1) before.5.leads in
+    let all = stops_then here before.0 err.0 (idle s) (idle before.1) before.7.leads in
     let old = c.args.node.now in
     let mid = c.loop-left.node in
     let new = c.turn.new.node in
@@ -66,15 +69,16 @@ returns-in-Err-clause-run g c = λ s here knows same.
     → KeptBehind old new s (front ++ rest) done failed =
     λ done failed kept.
     subst (λ (l : List (Stepped (List ℕ))). KeepsTill old new s l failed) (sym (append_assoc front rest done))
-    (run_then here old mid new before.0 s [] (idle before.1) (rest ++ done) failed before.5.run before.5.leads before.6 kept) in
+    (run_then here old mid new before.0 s [] (idle before.1) (rest ++ done) failed before.7.run before.7.leads before.8 kept) in
     let ends = ends_then c.in-Err.end c.args.turns xs (stops here (idle before.1) err.0) err.1 err.2 old mid new s before.1 front rest
-    c.in-Err.ensures.early before.2 (omega (arith, before.3, c.loop-left-test.true)) lift err.4 in (
+    c.in-Err.ensures.early before.2 (omega (arith, before.3, c.loop-left-test.true)) lift err.5 in (
       before.0 ++ err.0,
       err.1,
       err.2,
-      ran_then here before.0 err.0 (idle s) (idle before.1) err.1 err.2 _ _ _ before.5 err.3,
+      heard_on here g0 _ before.0 err.0 before.5 before.6 err.3,
+      ran_then here before.0 err.0 (idle s) (idle before.1) err.1 err.2 _ _ _ before.7 err.4,
       subst (λ (l : List (Stepped (List ℕ))). Ends old s l c.in-Err.end c.args.turns (stops here (idle s) (before.0 ++ err.0)) err.1 err.2 new)
-          (sym (calls_then here before.0 err.0 (idle s) (idle before.1) before.5.leads))
+          (sym (calls_then here before.0 err.0 (idle s) (idle before.1) before.7.leads))
           (subst (λ (l : List Bool). Ends old s (front ++ rest) c.in-Err.end c.args.turns l err.1 err.2 new) (sym all) ends),
     )
 
@@ -100,20 +104,23 @@ loop-left-preserved g c = record {
       let before = c.loop-left.invariant.ran s here knows same in
       let at : List (List ℕ) → Here = λ names. record { me = c.args.me; site = names } in
       let ok = c.in-Ok-false.ensures.ok before.1 here before.4 (same ∙ ap at (sym c.loop-left.invariant.leaves.site)) in
+      let g0 = c.args.room.now.gather in
       let xs = stops here (idle s) before.0 in
       let all : stops here (idle s) (before.0 ++ ok.0) ≡ xs ++ false ∷ [] =
-      stops_then here before.0 ok.0 (idle s) (idle before.1) before.5.leads
+      stops_then here before.0 ok.0 (idle s) (idle before.1) before.7.leads
       ∙ ap (λ (l : List Bool). xs ++ l) (ok.3 ∙ ap (λ b. b ∷ []) c.in-Ok-false.field-0-test) in (
         before.0 ++ ok.0,
         ok.1,
         subst (λ (l : List Bool). NoneStops l) (sym all) (none_both xs (false ∷ []) before.2 refl),
         omega (arith, ap (λ (l : List Bool). length l) all, length-append xs (false ∷ []), before.3, c.loop-left-test.true),
         ok.2,
-        ran_then here before.0 ok.0 (idle s) (idle before.1) (idle ok.1) none_begun _ _ _ before.5 ok.4,
+        heard_on here g0 _ before.0 ok.0 before.5 before.6 ok.4,
+        ok.5 ∙ gathered_on here g0 _ before.0 ok.0 before.6,
+        ran_then here before.0 ok.0 (idle s) (idle before.1) (idle ok.1) none_begun _ _ _ before.7 ok.6,
         subst (λ (l : List (Stepped (List ℕ))). Keeps c.args.node.now c.turn.new.node s l)
-            (sym (calls_then here before.0 ok.0 (idle s) (idle before.1) before.5.leads))
-            (run_both here c.args.node.now c.loop-left.node c.turn.new.node before.0 s [] (idle before.1) (run_calls here (idle before.1) ok.0) before.5.run
-            before.5.leads before.6 ok.5),
+            (sym (calls_then here before.0 ok.0 (idle s) (idle before.1) before.7.leads))
+            (run_both here c.args.node.now c.loop-left.node c.turn.new.node before.0 s [] (idle before.1) (run_calls here (idle before.1) ok.0) before.7.run
+            before.7.leads before.8 ok.7),
       );
 }
 
@@ -124,6 +131,7 @@ returns-clause-run g c = λ s here knows same.
       idle before.1,
       none_begun,
       before.5,
+      before.7,
       (
         refl,
         refl,
@@ -131,6 +139,6 @@ returns-clause-run g c = λ s here knows same.
         before.2,
         omega (arith, before.3, c.loop-left-test.false),
         subst (λ (l : List (Stepped (List ℕ))). KeepsTill c.args.node.now c.loop-left.node s l None) (sym (append-nil (run_calls here (idle s) before.0)))
-            before.6.0,
+            before.8.0,
       ),
     )

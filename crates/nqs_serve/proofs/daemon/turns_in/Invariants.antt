@@ -5,7 +5,7 @@ use Rattle.nqs_serve.specs.Events.{Here}
 use Rattle.nqs_serve.specs.Keeping.{Keeps}
 use Rattle.nqs_serve.specs.Leaves.{Leaves}
 use Rattle.nqs_serve.specs.Nodes.{Knows}
-use Rattle.nqs_serve.specs.Runs.{Act, idle, none_begun, run_calls, Ran}
+use Rattle.nqs_serve.specs.Runs.{Act, idle, none_begun, run_calls, AreHeard, gathered, Ran}
 use Rattle.nqs_serve.specs.Ends.{NoneStops, stops}
 use Rattle.nqs_serve.specs.declared.daemon.ServeEnd.TheVariants as end
 use Rattle.nqs_serve.proofs.daemon.turns_in.Given as goal
@@ -19,6 +19,7 @@ invariant-loop-left g l = record {
   ran : (s : Plain) (here : Here) → Knows l.fn.node s → here ≡ record { me = l.me; site = (content_of l.fn.node).site }
       → (acts : List Act) × (u : Plain) × NoneStops (stops here (idle s) acts)
       × (length (stops here (idle s) acts) + l.left ≡ l.turns) × Knows l.node u
+      × AreHeard here l.fn.room.gather acts × (l.room.gather ≡ gathered here l.fn.room.gather acts)
       × Ran here acts (idle s) (idle u) none_begun (g.X.Outside.told l.fn.outside) (g.X.Outside.told l.outside)
       × Keeps l.fn.node l.node s (run_calls here (idle s) acts);
 }

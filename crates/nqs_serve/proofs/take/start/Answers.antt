@@ -13,7 +13,7 @@ pub returns-in-Ok-clause-takes : goal.returns-in-Ok-clause-takes
 returns-in-Ok-clause-takes g c =
     let host = content_of c.args.node.now in
     ok_taken _ _ _ _ _ _ c.requires.said c.requires.short (start_right host c.requires.sound.order c.args.now)
-    (start_short host c.requires.sound.order c.args.now) c.in-Ok.ensures.spelled c.in-Ok.ensures.takes
+    (start_short host c.requires.sound.order c.requires.sound.short c.args.now) c.in-Ok.ensures.spelled c.in-Ok.ensures.takes
 
 pub returns-in-Ok-clause-more : goal.returns-in-Ok-clause-more
 returns-in-Ok-clause-more g c = λ s knows. c.in-Ok.ensures.more ∙ sym (start_known c.args.now c.args.node.now s knows)

@@ -15,7 +15,7 @@ returns-in-Ok-clause-takes g c =
     let host = content_of c.args.node.now in
     let e = c.args.event.now in
     ok_taken _ _ _ _ _ _ c.requires.said c.requires.short (step_right host c.requires.sound.order e c.requires.sane c.requires.right)
-    (step_short host c.requires.sound.order e c.requires.sane) c.in-Ok.ensures.spelled c.in-Ok.ensures.takes
+    (step_short host c.requires.sound.order c.requires.sound.short e c.requires.sane) c.in-Ok.ensures.spelled c.in-Ok.ensures.takes
 
 pub returns-in-Ok-clause-halts : goal.returns-in-Ok-clause-halts
 returns-in-Ok-clause-halts g c = λ s knows.

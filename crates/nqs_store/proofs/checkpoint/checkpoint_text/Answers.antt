@@ -1,13 +1,10 @@
 use Rattle.std.proofs.Common.{rules}
-use Rattle.nqs_state.specs.State.{content}
 use Rattle.nqs_base.proofs.Plain.{anyway}
-use Rattle.nqs_store.proofs.ShortParts.{parts_are_short}
 use Rattle.nqs_store.proofs.checkpoint.checkpoint_text.Goals as goal
 
 pub returns : goal.returns
 returns c = record {
   text = search rules;
   begins = search rules;
-  reads = anyway c.snapshot_text.result (c.in_ok-write_state.ensures.reads_back c.requires.sound.consistent
-      (parts_are_short (content c.args.state.now) c.requires.sound.short));
+  reads = anyway c.snapshot_text.result (c.in_ok-write_state.ensures.reads_back c.requires.sound.consistent c.requires.sound.short);
 }

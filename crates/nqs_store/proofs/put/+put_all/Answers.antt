@@ -7,7 +7,7 @@ use Rattle.std.specs.Result.{is_ok}
 use Rattle.std.proofs.lemmas.Result.{on_ok_weaker, on_err_weaker}
 use Rattle.nqs_base.specs.declared.extent.Extent.{Extent}
 use Rattle.nqs_outside.specs.History.{moment, extended}
-use Rattle.nqs_records.specs.Values.{IsExtent}
+use Rattle.nqs_records.specs.Values.{IsScript}
 use Rattle.nqs_spool.specs.Puts.{put_calls}
 use Rattle.nqs_spool.specs.Spooled.{disk_of, history_of, place_for}
 use Rattle.nqs_store.proofs.Extents.{with_first}
@@ -105,7 +105,7 @@ returns-in-Ok g t c =
     let made : IsTrue g.D.Disk.tells → history_of mid ≡ extended (history_of old) (put_calls x.place put) =
     (λ told. e.made told ∙ ap (λ (x : Extent). extended (history_of old) (put_calls x.place put)) (sym e.extent)) in
     let clear = λ (told : IsTrue g.D.Disk.tells). one_clear (g.D.Disk.fails (disk_of old)) (moment (history_of old)) put (e.due told) in
-    let small : IsExtent x = search rules in
+    let small : IsScript x = search rules in
     let pushed = c.push.ensures.items ∙ ap (λ r. if is_ok r then c.args.extents.now.items ++ x ∷ [] else c.args.extents.now.items) c.unwrap.ensures in
     record {
       puts = record {
@@ -133,5 +133,5 @@ returns-in-Ok g t c =
             (made told) (c.put_all.ensures.grown told).1,
       );
       done = on_ok_weaker c.put_all.result (more_put old mid c.put_all.new.spool x put e.tells e.stored c.args.puts.now later c.args.extents.now.items _ _ is
-          pushed small made c.put_all.ensures.puts.still) c.put_all.ensures.done;
+          pushed small (ap (λ (y : Extent). y.length) e.extent) made c.put_all.ensures.puts.still) c.put_all.ensures.done;
     }

@@ -1,16 +1,24 @@
-use Rattle.std.proofs.Common.{rules, ◌∙◌, length, sym, ap, subst}
+use Rattle.std.proofs.Common.{rules, ◌∙◌, length, map, sym, ap, subst, arith}
 use Rattle.nqs_records.specs.Changes.{MayStand, spelling}
 use Rattle.nqs_records.specs.Kinds.{record_of}
 use Rattle.nqs_records.specs.Extents.{with_extents}
 use Rattle.nqs_rules.specs.Stepped.{stored_parts}
 use Rattle.nqs_store.proofs.Lengths.{same_length}
-use Rattle.nqs_store.proofs.Filled.{with_back, stands_kept}
+use Rattle.nqs_store.proofs.Filled.{with_back, stands_kept, puts_short}
 use Rattle.nqs_store.specs.Putting.{ArePut}
 use Rattle.std.specs.List.{AllByRecursion}
 use Rattle.std.proofs.lemmas.List.{take_at}
 use Rattle.std.proofs.Common.{drop}
-use Rattle.nqs_records.specs.Values.{IsExtent}
+use Rattle.nqs_records.specs.Values.{IsScript}
+use Rattle.nqs_store.specs.Puts.{length_of}
 use Rattle.nqs_store.proofs.put.put_bytes.Goals as goal
+
+pub put_all-requires : goal.put_all-requires
+put_all-requires g c = record {
+  room = c.requires.prepared.room;
+  list = omega (arith, ap length c.requires.prepared.none, c.requires.prepared.list);
+  short = puts_short c.args.change.now c.args.puts.now c.requires.as_many c.requires.short;
+}
 
 pub put_extents-requires : goal.put_extents-requires
 put_extents-requires g c =
@@ -27,7 +35,8 @@ returns g c =
     let is = c.put_extents.ensures (stored_parts old) was in
     let size = ap length is ∙ ap (λ ch. length (spelling ch)) set ∙ same_length old xs ∙ ap length (sym c.requires.prepared.text)
     ∙ ap length (sym c.deref_mut.ensures.value) ∙ c.deref_mut.ensures.len in
-    let stands = subst MayStand (sym set) (stands_kept old xs c.requires.may_stand (subst (AllByRecursion IsExtent) (sym put.is) put.small)) in
+    let stands = subst MayStand (sym set) (stands_kept old xs c.args.puts.now c.requires.may_stand
+    (subst (AllByRecursion IsScript) (sym put.is) put.small) (ap (map length_of) put.is ∙ put.lengths) c.requires.short) in
     let whole = take_at c.put_extents.new.text (drop (length c.put_extents.new.text) c.args.text.now.items) c.args.text.now.len size in
     record {
       puts = search rules;

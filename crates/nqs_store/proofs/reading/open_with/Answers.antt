@@ -37,19 +37,20 @@ returns g c = record {
   opened = λ told.
       let t = c.in-Ok.ensures.tells told in
       let host = content c.in-Ok-host_in.state in
-      let front = c.deref.ensures.value ∙ t.4 ∙ ap (λ l. l ++ t.0) c.new-snapshot.ensures.items in
-      let all = c.deref-in-Ok.ensures.value ∙ t.5 ∙ ap (λ l. l ++ t.1) c.new-found.ensures.items in
+      let front = c.deref.ensures.value ∙ t.7 ∙ ap (λ l. l ++ t.1) c.new-snapshot.ensures.items in
+      let all = c.deref-in-Ok.ensures.value ∙ t.8 ∙ ap (λ l. l ++ t.2) c.new-found.ensures.items in
       let e = c.in-Ok-host_in.ensures in
       let size = e.extents.3 told ∙ ap (λ h. length (bytes_now h)) (sym (c.host_in.ensures.reads.same told)) in
       record {
-        version = c.in-Ok.version;
-        snapshot = t.0;
-        payloads = t.1;
-        is = t.2;
-        journal = t.3;
-        many = omega (arith, c.in-Ok.ensures.counted, ap length t.5, length-append c.new-found.result.items t.1);
-        records = subst (λ s. told_by c.in-Ok.version s t.1 ≡ Some host) front
-            (subst (λ ps. told_by c.in-Ok.version c.deref.result.now ps ≡ Some host) all c.in-Ok-host_in.ensures.host.0);
+        form = t.0;
+        snapshot = t.1;
+        payloads = t.2;
+        is = t.5;
+        journal = t.6;
+        many = omega (arith, c.in-Ok.ensures.counted, ap length t.8, length-append c.new-found.result.items t.2);
+        old = t.4;
+        records = subst (λ v. told_by v t.1 t.2 ≡ Some host) t.3 (subst (λ s. told_by c.in-Ok.version s t.2 ≡ Some host) front
+            (subst (λ ps. told_by c.in-Ok.version c.deref.result.now ps ≡ Some host) all c.in-Ok-host_in.ensures.host.0));
         spool = c.in-Ok-open_rest.ensures.tells (live host) e.host.2
             (λ _. subst (λ n. AllByRecursion (λ x. past x ≤ n) (live host)) size e.extents.2.within);
       };

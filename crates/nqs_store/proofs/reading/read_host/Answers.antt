@@ -10,16 +10,16 @@ returns g c = record {
   found = λ told.
       let f = c.in-Ok.ensures.found told in
       let host = content c.in_ok-state-in-Ok.state in
-      let front = c.deref.ensures.value ∙ f.3 ∙ ap (λ l. l ++ f.0) c.new-snapshot.ensures.items in
-      let all = c.deref-in-Ok.ensures.value ∙ f.4 ∙ ap (λ l. l ++ f.1) c.new-found.ensures.items in
+      let front = c.deref.ensures.value ∙ f.5 ∙ ap (λ l. l ++ f.1) c.new-snapshot.ensures.items in
+      let all = c.deref-in-Ok.ensures.value ∙ f.6 ∙ ap (λ l. l ++ f.2) c.new-found.ensures.items in
       let e = c.in_ok-state-in-Ok.ensures.extents in
       record {
-        version = c.in-Ok.version;
-        snapshot = f.0;
-        payloads = f.1;
-        stands = f.2;
-        tells = subst (λ s. told_by c.in-Ok.version s f.1 ≡ Some host) front
-            (subst (λ ps. told_by c.in-Ok.version c.deref.result.now ps ≡ Some host) all c.in_ok-state-in-Ok.ensures.host.0);
+        form = f.0;
+        snapshot = f.1;
+        payloads = f.2;
+        stands = f.4;
+        tells = subst (λ v. told_by v f.1 f.2 ≡ Some host) f.3 (subst (λ s. told_by c.in-Ok.version s f.2 ≡ Some host) front
+            (subst (λ ps. told_by c.in-Ok.version c.deref.result.now ps ≡ Some host) all c.in_ok-state-in-Ok.ensures.host.0));
         sound = subst (λ n. AreSound n (live host)) (e.3 told) e.2;
       };
   sound = search rules;

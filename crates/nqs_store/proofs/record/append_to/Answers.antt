@@ -8,7 +8,7 @@ pub returns-in-Ok-clause-appends : goal.returns-in-Ok-clause-appends
 returns-in-Ok-clause-appends g c =
     let e = c.in-Ok.ensures in
     rw c.if-on_second.true (append_done c.args.second.now c.append.new.self c.args.text.now
-    e.running e.counted e.made e.due e.any_moment e.acknowledged e.fuse e.later e.unread)
+    e.running e.counted e.old e.made e.due e.any_moment e.acknowledged e.fuse e.later e.unread)
 
 pub returns-in-Err-clause-appends : goal.returns-in-Err-clause-appends
 returns-in-Err-clause-appends g c =
@@ -21,7 +21,7 @@ pub returns-in-Ok-append-clause-appends : goal.returns-in-Ok-append-clause-appen
 returns-in-Ok-append-clause-appends g c =
     let e = c.in-Ok-append.ensures in
     rw c.if-on_second.false (append_done c.args.first.now c.append-else-on_second.new.self c.args.text.now
-    e.running e.counted e.made e.due e.any_moment e.acknowledged e.fuse e.later e.unread)
+    e.running e.counted e.old e.made e.due e.any_moment e.acknowledged e.fuse e.later e.unread)
 
 pub returns-in-Err-append-clause-appends : goal.returns-in-Err-append-clause-appends
 returns-in-Err-append-clause-appends g c =

@@ -3,7 +3,6 @@ use Rattle.std.proofs.lemmas.Result.{err_from_is_err_and}
 use Rattle.nqs_state.specs.State.{content}
 use Rattle.nqs_journal.specs.Text.{records}
 use Rattle.nqs_journal.specs.Either.{front_of}
-use Rattle.nqs_journal.proofs.Fronts.{length-front_of}
 use Rattle.nqs_store.proofs.Telling.{told_snapshot, bad_snapshot, bad_behind}
 use Rattle.nqs_store.proofs.tell.tell_behind.Goals as goal
 
@@ -20,8 +19,8 @@ take_records-requires-clause-short c =
     omega (
       arith,
       c.requires.short,
+      c.front_length-place.ensures,
       length-append (front_of c.args.version c.args.snapshot.now) (records c.args.payloads.now),
-      length-front_of c.args.version c.args.snapshot.now c.requires.version,
     )
 
 pub returns-in_err-take_records : goal.returns-in_err-take_records
@@ -30,7 +29,7 @@ returns-in_err-take_records c =
     record {
       ok = rw p.1 tt;
       err = rw (p.1, p.2) (bad_behind c.args.version c.args.snapshot.now c.args.payloads.now (content c.in_ok-state.state) _ _ c.requires.version
-          c.in_ok-state.ensures.ok.0 (omega arith) c.in_err-take_records.ensures.err);
+          c.in_ok-state.ensures.ok.0 c.front_length-place.ensures c.in_err-take_records.ensures.err);
     }
 
 pub returns : goal.returns

@@ -38,3 +38,11 @@ returns-clause-events c = refl
 pub returns-clause-no_events : goal.returns-clause-no_events
 unfolding digits has_parent
 returns-clause-no_events c = refl
+
+pub returns-clause-scripts : goal.returns-clause-scripts
+unfolding digits has_parent
+returns-clause-scripts c script = refl
+
+pub returns-clause-offers : goal.returns-clause-offers
+unfolding digits has_parent
+returns-clause-offers c script = refl

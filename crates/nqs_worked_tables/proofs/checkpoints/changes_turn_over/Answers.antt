@@ -30,6 +30,10 @@ pub returns-clause-used_back : goal.returns-clause-used_back
 unfolding digits
 returns-clause-used_back c = refl
 
+pub returns-clause-carried_over : goal.returns-clause-carried_over
+unfolding digits
+returns-clause-carried_over c = refl
+
 pub returns-clause-disks : goal.returns-clause-disks
 unfolding digits
 returns-clause-disks c = refl

@@ -34,3 +34,11 @@ returns-clause-parts c = refl
 pub returns-clause-long_parts : goal.returns-clause-long_parts
 unfolding digits has_parent
 returns-clause-long_parts c = refl
+
+pub returns-clause-long_outputs : goal.returns-clause-long_outputs
+unfolding digits has_parent
+returns-clause-long_outputs c = refl
+
+pub returns-clause-long_scripts : goal.returns-clause-long_scripts
+unfolding digits has_parent
+returns-clause-long_scripts c = refl

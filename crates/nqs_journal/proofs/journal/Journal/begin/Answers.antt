@@ -1,4 +1,4 @@
-use Rattle.std.proofs.Common.{◌∙◌, ◌-◌, ap, subst, sym, length, arith}
+use Rattle.std.proofs.Common.{◌∙◌, ◌-◌, ap, subst, sym, length, false, arith}
 use Rattle.nqs_journal.specs.Opened.{IsCounted}
 use Rattle.nqs_journal.specs.Text.{snapshot_front}
 use Rattle.nqs_journal.proofs.Counts.{counted_none}
@@ -17,7 +17,7 @@ invariant_of-result g c =
       within = λ told running. omega (arith, begun.length told, size, few, c.len.ensures, made.length);
       room = c.in-Ok.ensures.capacity;
       few = omega arith;
-      counted = λ told running. subst (λ n. ∥ IsCounted (g.D.Disk.history c.write_begin.new.disk) n 0 ∥₁) (sym (ap (λ n. n - 1) size))
+      counted = λ told running. subst (λ n. ∥ IsCounted (g.D.Disk.history c.write_begin.new.disk) n 0 false ∥₁) (sym (ap (λ n. n - 1) size))
           (counted_none _ c.args.snapshot.now text.items (omega (arith, begun.small, few, text.ok.0, made.length)) made.text
           (begun.open told front (c.deref.ensures.value ∙ made.text)));
     }

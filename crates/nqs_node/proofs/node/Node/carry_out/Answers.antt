@@ -10,8 +10,8 @@ use Rattle.nqs_store.specs.declared.fault.StoreFault.TheVariants as fault
 use Rattle.nqs_back.specs.Bare.{emptied, blank, without_bytes}
 use Rattle.nqs_node.specs.Carried.{IsOneOrOther, IsBlown, IsCutBy}
 use Rattle.nqs_node.specs.Nodes.{history_of, fails_of, active_of, content_of, bytes_of}
-use Rattle.nqs_node.specs.Reading.{read_into, AreLiveReads, sends_short}
-use Rattle.nqs_node.proofs.Carrying.{reads_short, short_together}
+use Rattle.nqs_node.specs.Reading.{read_into, zeros, AreLiveReads, sends_short}
+use Rattle.nqs_node.proofs.Carrying.{short_together}
 use Rattle.nqs_node.proofs.Places.{no_error, node_memory, node_disk}
 use Rattle.nqs_node.proofs.Still.{memory_no_refusal, disk_no_refusal, disk_no_memory, no_refusal, stays_still, stops_still, carries_still}
 use Rattle.nqs_node.proofs.Telling.{kept_from, tells_still}
@@ -176,8 +176,7 @@ returns-clause-carries g c =
       alike = ap (map without_bytes) items ∙ map-append without_bytes c.args.out.now.items c.perform.new.outputs.items
           ∙ ap (λ l. map without_bytes c.args.out.now.items ++ l) (fills.alike ∙ ap (map without_bytes) outputs);
       short = λ done does was went.
-          let went_so = ap (list_all sends_short) (same (λ _. []) ∙ does.said) ∙ went in
-          let said = fills.short (reads_short host c.requires.sound.short c.as_slice-in-Ok.result.now live) went_so in
+          let said = fills.short (ap (list_all sends_short) (same zeros ∙ does.said) ∙ went) in
           ap (list_all sends_short) items ∙ short_together c.args.out.now.items c.perform.new.outputs.items was said;
       carries = λ done does.
           let calls = performs.calls done.change (kept_from _ _ _ _ done.change

@@ -1,18 +1,16 @@
 use Rattle.std.proofs.Common.{◌++◌, IsTrue, length, IfSome, List, [], ℕ, is_some, map, refl, sym, ap, subst, ◌∙◌, le_refl}
-use Rattle.std.specs.List.{AllByRecursion}
 use Rattle.std.proofs.lemmas.List.{append-nil}
 use Rattle.nqs_rules.specs.Fits.{fits}
-use Rattle.nqs_rules.specs.Sane.{is_sane_change}
+use Rattle.nqs_rules.specs.Sane.{is_sane_change, is_short_change}
 use Rattle.nqs_rules.specs.Starts.{after_step}
-use Rattle.nqs_rules.specs.Stepped.{Stepped, map_stepped, shown, puts_of}
-use Rattle.nqs_store.specs.Puts.{IsShortPut}
+use Rattle.nqs_rules.specs.Stepped.{Stepped, map_stepped, shown}
 use Rattle.nqs_host_laws.specs.Offers.{takes_back_few}
 use Rattle.nqs_host_laws.specs.Reads.{AreLive}
 use Rattle.nqs_node.specs.Carried.{started, after_kept, IsMade, IsSpelled}
 use Rattle.nqs_node.specs.Nodes.{history_of, fails_of, active_of, content_of, bytes_of, Tells, AsksAtMost}
-use Rattle.nqs_node.specs.Reading.{AreShort, reads_for}
+use Rattle.nqs_node.specs.Reading.{zeros, AreShort, reads_for}
 use Rattle.nqs_back.proofs.Plans.{bare_step, alike_step, fewer_left, one_back}
-use Rattle.nqs_node.proofs.Bare.{picked_bare, started_bare, bare_none, alike_none}
+use Rattle.nqs_node.proofs.Bare.{picked_bare, started_bare, started_filled, bare_none, alike_none}
 use Rattle.nqs_store.specs.declared.fault.StoreFault.TheVariants as fault
 use Rattle.nqs_node.proofs.Places.{no_error, node_memory, node_stopped}
 use Rattle.nqs_node.proofs.Still.{no_refusal, takes_still, refuses_still, wants_still, carries_true, leaves_true}
@@ -35,7 +33,7 @@ carry_out-requires-clause-may g c =
     may_be_done next.done plan next.is host
     (at_next (λ x. IfSome x.change (λ c. IsTrue (fits c host) × IsTrue (is_sane_change c))) now host plan next (c.start_fits.ensures now host order))
     (at_next (λ x. IfSome x.change (λ c. IsTrue (takes_back_few c))) now host plan next (c.few_offers_are_taken_back.ensures.start now host order))
-    (at_next (λ x. AllByRecursion IsShortPut (puts_of x.change)) now host plan next (c.stored_bytes_are_short.ensures.start now host order))
+    (at_next (λ x. IfSome x.change (λ c. IsTrue (is_short_change length c))) now host plan next (c.stored_bytes_are_short.ensures.start now host order))
     (at_next (λ x. AreLive host x.outputs) now host plan next (c.outputs_read_live_extents.ensures.start now host order))
 
 pub returns-then-self-clause-leaves : goal.returns-then-self-clause-leaves
@@ -126,8 +124,9 @@ returns-in-Ok-clause-takes g c =
       bare = bare_step host (content_of c.carry_out.new.self) (started now) next.done plan next.is same carried.bare;
       alike = alike_step host (started now) next.done plan next.is same c.args.out.now.items c.carry_out.new.out.items carried.alike;
       short = λ was went.
-          carried.short (map_stepped (λ _. []) next.done) (does next.done plan next.is (λ _. [])) was
-          (subst (λ (x : Stepped (List ℕ)). AreShort (map shown x.outputs)) same went);
+          carried.short (map_stepped zeros next.done) (does next.done plan next.is zeros) was
+          (subst (λ (x : Stepped (List ℕ)). AreShort (map shown x.outputs))
+          (started_filled now host zeros (c.start_looks_at_no_bytes.ensures.start zeros now host) next.done next.picked) went);
       carries = λ s told.
           carries_true old _ _ _ (started now s) (carried.carries (started now s) (does_next old s told now
           (c.start_looks_at_no_bytes.ensures.start (bytes_of old) now host) plan next));
@@ -147,8 +146,8 @@ returns-in-Ok-clause-spelled g c = λ yes s told.
     let host = content_of old in
     let plan = c.in-Ok-Some.plan in
     let next = next_is c.args.now host plan (sym c.in-Ok-Some.field-0-is ∙ c.in-Ok-Some.ensures) in
-    let does = does_next old s told c.args.now (c.start_looks_at_no_bytes.ensures.start (bytes_of old) c.args.now host) plan next in
-    c.in-Ok.ensures.spelled yes s told (started c.args.now s).change does.kept
+    let did = does_next old s told c.args.now (c.start_looks_at_no_bytes.ensures.start (bytes_of old) c.args.now host) plan next in
+    c.in-Ok.ensures.spelled yes s told (started c.args.now s).change did.kept
 
 pub invariant_of-self : goal.invariant_of-self
 invariant_of-self g c =

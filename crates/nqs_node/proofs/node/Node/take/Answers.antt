@@ -4,7 +4,7 @@ use Rattle.nqs_rules.specs.Step.{step}
 use Rattle.nqs_rules.specs.Stepped.{Stepped, map_stepped, shown}
 use Rattle.nqs_types.specs.declared.event.Plan.{Plan}
 use Rattle.nqs_node.specs.Nodes.{content_of, bytes_of, bare, AsksAtMost}
-use Rattle.nqs_node.specs.Reading.{AreShort, reads_for}
+use Rattle.nqs_node.specs.Reading.{zeros, AreShort, reads_for}
 use Rattle.nqs_back.proofs.Plans.{bare_step, alike_step, no_more_left, none_back}
 use Rattle.nqs_store.specs.declared.fault.StoreFault.TheVariants as fault
 use Rattle.nqs_node.proofs.Places.{node_memory, node_stopped}
@@ -53,8 +53,8 @@ returns-in-Ok-clause-takes g c =
       alike = on_ok_weaker c.carry_out.result (alike_step host (step c.args.event.now) (step c.args.event.now host) c.in-Ok.plan c.in-Ok.ensures same
           c.args.out.now.items c.carry_out.new.out.items) carried.alike;
       short = λ was went.
-          carried.short (map_stepped (λ _. []) (step c.args.event.now host)) (does (step c.args.event.now host) c.in-Ok.plan c.in-Ok.ensures (λ _. [])) was
-          (subst (λ (x : Stepped (List ℕ)). AreShort (map shown x.outputs)) same went);
+          carried.short (map_stepped zeros (step c.args.event.now host)) (does (step c.args.event.now host) c.in-Ok.plan c.in-Ok.ensures zeros) was
+          (subst (λ (x : Stepped (List ℕ)). AreShort (map shown x.outputs)) (c.step_looks_at_no_bytes.ensures zeros c.args.event.now host) went);
       carries = λ s told.
           carried.carries (step c.args.event.now s) (done_here old s told (step c.args.event.now) (step c.args.event.now host) c.in-Ok.plan c.in-Ok.ensures
           (c.step_looks_at_no_bytes.ensures (bytes_of old) c.args.event.now host));
@@ -64,9 +64,9 @@ pub returns-in-Ok-clause-spelled : goal.returns-in-Ok-clause-spelled
 returns-in-Ok-clause-spelled g c = λ yes s told.
     let old = c.args.self.now in
     let e = c.args.event.now in
-    let does = done_here old s told (step e) (step e (content_of old)) c.in-Ok.plan c.in-Ok.ensures
+    let did = done_here old s told (step e) (step e (content_of old)) c.in-Ok.plan c.in-Ok.ensures
     (c.step_looks_at_no_bytes.ensures (bytes_of old) e (content_of old)) in
-    c.carry_out.ensures.spelled yes s told (step e s).change does.kept
+    c.carry_out.ensures.spelled yes s told (step e s).change did.kept
 
 pub returns-in-Ok-clause-halts : goal.returns-in-Ok-clause-halts
 returns-in-Ok-clause-halts g c =

@@ -140,7 +140,7 @@ returns-in-Ok-append_to-clause-keeps g c =
           let p = put_of g k told tells in
           let acc = account told o host tells p in
           tells_later o _ host (applied c.put_bytes.new.change host) tells c.deref.result.now refl c.append_to.ensures.rest refl
-          (done.acknowledged told (front_of tells.version tells.snapshot) tells.payloads tells.journal) done.counted (records_now told o host tells p)
+          (done.acknowledged told (front_of tells.form tells.snapshot) tells.payloads tells.journal) done.counted done.stays (records_now told o host tells p)
           (spool_tells told o host tells p c.free_gone.new.spool (freed.tells acc.more acc.fewer (put_tells told o host tells p) acc.takes));
       active = search rules;
       plain = λ told tells.

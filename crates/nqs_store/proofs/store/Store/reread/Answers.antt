@@ -46,7 +46,7 @@ returns-in_default g c = record {
       λ told.
       let store = c.args.self.now in
       tells_again store c.names_second.new.root store.first store.second store.spool _ (each_disk _ (c.in_default.ensures.reads.same told) refl refl refl)
-      (λ b front payloads is. is) (λ b. refl) (λ live is. is);
+      (λ b front payloads is. is) (λ b. refl) (λ b. refl) (λ live is. is);
 }
 
 pub returns-then-second : goal.returns-then-second
@@ -82,13 +82,15 @@ returns-then-second g c = record {
       (asks_each g.D.Disk _ _ true c.in-Ok.ensures.once c.reread_host.ensures.host.twice refl c.reread_host.ensures.host.once);
   stays = (
     refl,
-    active_again c.args.self.now c.args.self.now.first c.reread_host.new.journal (either_one _ refl c.reread_host.ensures.stays.1),
+    active_again c.args.self.now c.args.self.now.first c.reread_host.new.journal (either_one _ refl c.reread_host.ensures.stays.1)
+        (either_one _ refl c.reread_host.ensures.stays.2),
   );
   tells =
       λ told.
       tells_again c.args.self.now c.names_second.new.root c.args.self.now.first c.reread_host.new.journal c.reread_host.new.spool _
       (each_disk _ (c.in-Ok.ensures.reads.same told) refl (c.reread_host.ensures.host.active.same told) (c.reread_host.ensures.host.spool.same told))
-      (either_one _ (λ front payloads is. is) (c.reread_host.ensures.tells told)) (either_one _ refl c.reread_host.ensures.stays.1) c.reread_host.ensures.kept;
+      (either_one _ (λ front payloads is. is) (c.reread_host.ensures.tells told)) (either_one _ refl c.reread_host.ensures.stays.1)
+      (either_one _ refl c.reread_host.ensures.stays.2) c.reread_host.ensures.kept;
 }
 
 pub returns-else-second : goal.returns-else-second
@@ -125,7 +127,8 @@ returns-else-second g c = record {
       (asks_each g.D.Disk _ _ false c.in-Ok.ensures.once c.reread_host-else-second.ensures.host.twice refl c.reread_host-else-second.ensures.host.once);
   stays = (
     refl,
-    active_again c.args.self.now c.reread_host-else-second.new.journal c.args.self.now.second (either_one _ c.reread_host-else-second.ensures.stays.1 refl),
+    active_again c.args.self.now c.reread_host-else-second.new.journal c.args.self.now.second (either_one _ c.reread_host-else-second.ensures.stays.1 refl)
+        (either_one _ c.reread_host-else-second.ensures.stays.2 refl),
   );
   tells =
       λ told.
@@ -133,5 +136,5 @@ returns-else-second g c = record {
       (each_disk _ (c.in-Ok.ensures.reads.same told) (c.reread_host-else-second.ensures.host.active.same told) refl
       (c.reread_host-else-second.ensures.host.spool.same told))
       (either_one _ (c.reread_host-else-second.ensures.tells told) (λ front payloads is. is)) (either_one _ c.reread_host-else-second.ensures.stays.1 refl)
-      c.reread_host-else-second.ensures.kept;
+      (either_one _ c.reread_host-else-second.ensures.stays.2 refl) c.reread_host-else-second.ensures.kept;
 }
