@@ -1,0 +1,4 @@
+pub mod Orders
+pub mod Fronts
+pub mod Balances
+pub mod Least

@@ -1,0 +1,3 @@
+pub mod Load
+pub mod Balance
+pub mod Worked
