@@ -49,39 +49,50 @@ def examples():
         yield name, subprocess.run([script, name], stdout=subprocess.PIPE, check=True).stdout
 
 
-def free_port():
-    """A port that is free now."""
+LOOPBACK = "127.0.0.1"
+NAMES = ["alpha", "beta", "gamma", "delta"]
+
+
+def free_port(address=LOOPBACK):
+    """A port that is free now at this address."""
     with socket.socket(socket.AF_INET, socket.SOCK_DGRAM) as bound:
-        bound.bind(("127.0.0.1", 0))
+        bound.bind((address, 0))
         return bound.getsockname()[1]
 
 
-def key_port():
-    """A port that is free now, and that a site with a key may have, below 1024; None where this user
-    may have none."""
+def key_port(address=LOOPBACK):
+    """A port that is free now at this address, and that a site with a key may have, below 1024; None
+    where this user may have none."""
     for port in range(607, 1024):
         with socket.socket(socket.AF_INET, socket.SOCK_DGRAM) as bound:
             try:
-                bound.bind(("127.0.0.1", port))
+                bound.bind((address, port))
             except OSError:
                 continue
             return port
     return None
 
 
-def site_of_one(folder, key=None):
-    """Makes a folder the site of one host, alpha, at a free port, which it answers. The site is
-    open, or has this key of 32 bytes, under which ports are below 1024."""
-    port = key_port() if key else free_port()
-    if port is None:
+def site_of(folder, addresses, key=None):
+    """Makes a folder the site of a host at each of these addresses, alpha, beta and so on, each at a
+    free port, which it answers in order. The site is open, or has this key of 32 bytes, under which
+    ports are below 1024."""
+    ports = [key_port(address) if key else free_port(address) for address in addresses]
+    if None in ports:
         sys.exit("a site with a key has ports below 1024, and this user may have none")
     with open(os.path.join(folder, "site"), "w", encoding="ascii") as site:
-        site.write(f"alpha 127.0.0.1 {port}\n")
+        for name, address, port in zip(NAMES, addresses, ports):
+            site.write(f"{name} {address} {port}\n")
     path = os.path.join(folder, "key")
     with open(path, "w", encoding="ascii") as file:
         os.chmod(path, 0o600 if key else 0o644)
         file.write(f"{key.hex() if key else 'open'}\n")
-    return port
+    return ports
+
+
+def site_of_one(folder, key=None):
+    """Makes a folder the site of one host, alpha, likewise, and answers its port."""
+    return site_of(folder, [LOOPBACK], key)[0]
 
 
 def sealed(text, key):
@@ -112,15 +123,16 @@ def datagrams(text, kind, port, number):
 
 class Client:
     """A client that stays: it asks the daemon of the host at a place of the site by datagrams, which
-    have a tag where there is a key."""
+    have a tag where there is a key. Its own address and port are these, the port a free one where
+    none is given."""
 
-    def __init__(self, port, wait=5.0, key=None, place=0):
+    def __init__(self, port, wait=5.0, key=None, place=0, own=(LOOPBACK, 0)):
         self.key, self.place = key, place
         self.socket = socket.socket(socket.AF_INET, socket.SOCK_DGRAM)
-        self.socket.bind(("127.0.0.1", 0))
+        self.socket.bind(own)
         self.socket.settimeout(wait)
         self.port = self.socket.getsockname()[1]
-        self.daemon = ("127.0.0.1", port)
+        self.daemon = (LOOPBACK, port)
         self.token = 0
 
     def ask(self, tool, words=(), script=b"", user=b"root"):
@@ -153,25 +165,27 @@ class Client:
 
 
 class Daemon:
-    """The daemon of a new site of one host in a folder, which is open or has this key."""
+    """The daemon of the first host of a new site in a folder, which is open or has this key, and
+    whose hosts have these addresses; or that of the host at this place of a site that is there."""
 
-    def __init__(self, nqs, folder, key=None):
-        self.nqs, self.folder, self.key = nqs, folder, key
-        self.port = site_of_one(folder, key)
-        subprocess.run([nqs, "format", folder, "alpha"], check=True)
+    def __init__(self, nqs, folder, key=None, addresses=(LOOPBACK,), place=0, ports=None):
+        self.nqs, self.folder, self.key, self.place = nqs, folder, key, place
+        self.ports = ports or site_of(folder, addresses, key)
+        self.port, self.host = self.ports[place], NAMES[place]
+        subprocess.run([nqs, "format", folder, self.host], check=True)
         self.start()
 
     def begin(self):
         """Starts the program. What it says on standard error goes to a file, as under its
         keeper."""
         with open(os.path.join(self.folder, "said"), "ab") as said:
-            self.child = subprocess.Popen([self.nqs, "daemon", self.folder, "alpha", TURNS], stderr=said)
+            self.child = subprocess.Popen([self.nqs, "daemon", self.folder, self.host, TURNS], stderr=said)
 
     def start(self):
         """Starts it, and answers how long it took until its first answer."""
         began = time.perf_counter()
         self.begin()
-        client = Client(self.port, 0.02, self.key)
+        client = Client(self.port, 0.02, self.key, self.place)
         while client.ask(2, (b"-u", b"nobody")) is None:
             pass
         return time.perf_counter() - began

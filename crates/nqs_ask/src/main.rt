@@ -2,7 +2,7 @@
 //! the group that may read the key of a site, and its right to be that group (mode 2755); the
 //! program `nqs`, which starts jobs, never is.
 //!
-//! `qsub|qstat|qdel|qmgr DIR HOST [WORD]..`
+//! `qsub|qstat|qdel|qmgr|rqstat|rqdel DIR HOST [WORD]..`
 #![tactic(auto)]
 
 use nqs_cli::ask_program;

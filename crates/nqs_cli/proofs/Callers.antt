@@ -8,7 +8,7 @@ use Rattle.std.specs.declared.option.Option.{Option}
 use Rattle.std.specs.declared.option.Option.TheVariants.{None, Some}
 use Rattle.nqs_base.proofs.Readings.{found}
 use Rattle.nqs_types.specs.declared.message.Tool.{Tool}
-use Rattle.nqs_types.specs.declared.message.Tool.TheVariants.{Qsub, Qstat, Qdel, Qmgr}
+use Rattle.nqs_types.specs.declared.message.Tool.TheVariants.{Qsub, Qstat, Qdel, Qmgr, Rqstat, Rqdel}
 use Rattle.nqs_words.specs.Values.{is_name, name_of}
 use Rattle.nqs_clients.specs.Asking.{asking}
 use Rattle.nqs_clients.specs.Errand.{words_of, are_short, made_of, errand_of}
@@ -61,25 +61,43 @@ module _ (name dir host : List ℕ) (more : Words) (o : Ordered) (P : Form → T
   unfolding form_of errand_of
   by_qmgr holds same = of_length Qmgr (are_short more) holds same
 
+  by_rqstat : Holds Rqstat → Orders (form_of (codes "rqstat") (name ∷ more)) → P o.form
+  unfolding form_of errand_of
+  by_rqstat holds same = of_length Rqstat (are_short more) holds same
+
+  by_rqdel : Holds Rqdel → Orders (form_of (codes "rqdel") (name ∷ more)) → P o.form
+  unfolding form_of errand_of
+  by_rqdel holds same = of_length Rqdel (are_short more) holds same
+
   -- the same of a tool that is that one
   at : (tool same : List ℕ) → bytes_eq tool same ≡ true → (Orders (form_of same (name ∷ more)) → P o.form) → Orders (form_of tool (name ∷ more)) → P o.form
   at tool same is asks ordered = asks (subst (λ (t : List ℕ). Orders (form_of t (name ∷ more))) (bytes_exact tool same is) ordered)
 
-  by_tool : (tool : List ℕ) (a b c d : Bool) → bytes_eq tool (codes "qsub") ≡ a → bytes_eq tool (codes "qstat") ≡ b
-      → bytes_eq tool (codes "qdel") ≡ c → bytes_eq tool (codes "qmgr") ≡ d → (a || b || c || d) ≡ true
-      → (bytes_eq tool (codes "qsub") ≡ true → Holds Qsub) → Holds Qstat → Holds Qdel → Holds Qmgr
+  by_tool : (tool : List ℕ) (a b c d e f : Bool) → bytes_eq tool (codes "qsub") ≡ a → bytes_eq tool (codes "qstat") ≡ b →
+      bytes_eq tool (codes "qdel") ≡ c → bytes_eq tool (codes "qmgr") ≡ d →
+      bytes_eq tool (codes "rqstat") ≡ e → bytes_eq tool (codes "rqdel") ≡ f → (a || b || c || d || e || f) ≡ true
+      → (bytes_eq tool (codes "qsub") ≡ true → Holds Qsub) → Holds Qstat → Holds Qdel → Holds Qmgr → Holds Rqstat → Holds Rqdel
       → Orders (form_of tool (name ∷ more)) → P o.form
-  by_tool tool true b c d at_qsub at_qstat at_qdel at_qmgr is qsub qstat qdel qmgr same = at tool (codes "qsub") at_qsub (by_qsub (qsub at_qsub)) same
-  by_tool tool false true c d at_qsub at_qstat at_qdel at_qmgr is qsub qstat qdel qmgr same = at tool (codes "qstat") at_qstat (by_qstat qstat) same
-  by_tool tool false false true d at_qsub at_qstat at_qdel at_qmgr is qsub qstat qdel qmgr same = at tool (codes "qdel") at_qdel (by_qdel qdel) same
-  by_tool tool false false false true at_qsub at_qstat at_qdel at_qmgr is qsub qstat qdel qmgr same = at tool (codes "qmgr") at_qmgr (by_qmgr qmgr) same
-  by_tool tool false false false false at_qsub at_qstat at_qdel at_qmgr is qsub qstat qdel qmgr same = let no : ⊥ = cc in absurd no
+  by_tool tool true b c d e f at_qsub at_qstat at_qdel at_qmgr at_rqstat at_rqdel is qsub qstat qdel qmgr rqstat rqdel same =
+      at tool (codes "qsub") at_qsub (by_qsub (qsub at_qsub)) same
+  by_tool tool false true c d e f at_qsub at_qstat at_qdel at_qmgr at_rqstat at_rqdel is qsub qstat qdel qmgr rqstat rqdel same =
+      at tool (codes "qstat") at_qstat (by_qstat qstat) same
+  by_tool tool false false true d e f at_qsub at_qstat at_qdel at_qmgr at_rqstat at_rqdel is qsub qstat qdel qmgr rqstat rqdel same =
+      at tool (codes "qdel") at_qdel (by_qdel qdel) same
+  by_tool tool false false false true e f at_qsub at_qstat at_qdel at_qmgr at_rqstat at_rqdel is qsub qstat qdel qmgr rqstat rqdel same =
+      at tool (codes "qmgr") at_qmgr (by_qmgr qmgr) same
+  by_tool tool false false false false true f at_qsub at_qstat at_qdel at_qmgr at_rqstat at_rqdel is qsub qstat qdel qmgr rqstat rqdel same =
+      at tool (codes "rqstat") at_rqstat (by_rqstat rqstat) same
+  by_tool tool false false false false false true at_qsub at_qstat at_qdel at_qmgr at_rqstat at_rqdel is qsub qstat qdel qmgr rqstat rqdel same =
+      at tool (codes "rqdel") at_rqdel (by_rqdel rqdel) same
+  by_tool tool false false false false false false at_qsub at_qstat at_qdel at_qmgr at_rqstat at_rqdel is qsub qstat qdel qmgr rqstat rqdel same =
+      let no : ⊥ = cc in absurd no
 
   pub of_tool : (tool : List ℕ) → is_tool tool ≡ true → (bytes_eq tool (codes "qsub") ≡ true → Holds Qsub) → Holds Qstat → Holds Qdel → Holds Qmgr
-      → order_of (tool ∷ dir ∷ host ∷ name ∷ more) ≡ Some o → P o.form
-  of_tool tool is qsub qstat qdel qmgr same =
+      → Holds Rqstat → Holds Rqdel → order_of (tool ∷ dir ∷ host ∷ name ∷ more) ≡ Some o → P o.form
+  of_tool tool is qsub qstat qdel qmgr rqstat rqdel same =
       by_tool tool (bytes_eq tool (codes "qsub")) (bytes_eq tool (codes "qstat")) (bytes_eq tool (codes "qdel")) (bytes_eq tool (codes "qmgr"))
-      refl refl refl refl is qsub qstat qdel qmgr same
+      (bytes_eq tool (codes "rqstat")) (bytes_eq tool (codes "rqdel")) refl refl refl refl refl refl is qsub qstat qdel qmgr rqstat rqdel same
 
 -- the words that are put in, and that they are a caller's
 put_in : (sealed : Bool) (name tool dir host : List ℕ) (more asked : Words) (o : Ordered) → asked_as sealed name (tool ∷ dir ∷ host ∷ more) ≡ Some asked
@@ -99,7 +117,7 @@ asks_as sealed name (tool ∷ dir ∷ []) asked o put said = absurd (none-some a
 asks_as sealed name (tool ∷ dir ∷ host ∷ more) asked o put said =
     let p = put_in sealed name tool dir host more asked o put said in
     of_tool name dir host (more ++ folder_of (has_folders sealed tool) name) o (AsksAs name) tool p.0 (λ is own e. (refl, record {}))
-    (λ own e. (refl, record {})) (λ own e. (refl, record {})) (λ own e. (refl, record {})) p.2
+    (λ own e. (refl, record {})) (λ own e. (refl, record {})) (λ own e. (refl, record {})) (λ own e. (refl, record {})) (λ own e. (refl, record {})) p.2
 
 pub asks_in_folder : (name : List ℕ) (words asked : Words) (o : Ordered) → asked_as true name words ≡ Some asked → order_of asked ≡ Some o
     → AsksInFolder name o.form
@@ -114,4 +132,4 @@ asks_in_folder name (tool ∷ dir ∷ host ∷ more) asked o put said =
       sym (same_Some _ _ e) ∙ ap (λ (b : Bool). more ++ folder_of b name) is,
       subst (λ (b : Bool). leaves_folder b more ≡ true) is p.1,
     ))
-    (λ own e. record {}) (λ own e. record {}) (λ own e. record {}) p.2
+    (λ own e. record {}) (λ own e. record {}) (λ own e. record {}) (λ own e. record {}) (λ own e. record {}) p.2

@@ -24,9 +24,10 @@ use Rattle.nqs_node.proofs.Booting.{quiet_one}
 use Rattle.nqs_node.proofs.Nothing.{told_images}
 use Rattle.nqs_node.proofs.Performing.{still_broken_off}
 use Rattle.nqs_serve.specs.Ends.{EndsWith, IsBroken}
+use Rattle.nqs_serve.specs.Events.{Here}
 use Rattle.nqs_serve.specs.Keeping.{AreKept}
 use Rattle.nqs_serve.specs.Moments.{TellsThroughout, IsPassed}
-use Rattle.nqs_serve.specs.Runs.{Act, Turn, idle, Begun}
+use Rattle.nqs_serve.specs.Runs.{Act, Turn, begins, Begun}
 use Rattle.nqs_serve.proofs.Ending.{cut_as}
 use Rattle.nqs_serve.proofs.Moments.{through_made, through_then, through_as}
 use Rattle.nqs_serve.specs.declared.daemon.ServeEnd.{ServeEnd}
@@ -56,16 +57,16 @@ kept_since a b old mid new now s calls failed same active whole boot kept =
     (mid, whole, boot, rest)
 
 -- a run ends so where more than the state is told, of the same disks, and the host is seen no more
-pub ends_as : (P Q At : Plain → Type 0) (K L : List (Stepped (List ℕ)) → Kept → Type 0) (h k : Which → History) → ((s : Plain) → P s → Q s)
+pub ends_as : (here : Here) (P Q At : Plain → Type 0) (K L : List (Stepped (List ℕ)) → Kept → Type 0) (h k : Which → History) → ((s : Plain) → P s → Q s)
     → ((done : List (Stepped (List ℕ))) (failed : Kept) → K done failed → L done failed) → ((which : Which) → k which ≡ h which)
     → (so : ServeEnd) (turns : ℕ)
     (bs : List Bool) (t : Turn) (more : Begun)
-    → EndsWith P At K h so turns bs t more → EndsWith Q Unseen L k so turns bs t more
-ends_as P Q At K L h k f lift same end.Shutdown turns bs t more e = (e.0, e.1, f t.state e.2, e.3, lift [] None e.4)
-ends_as P Q At K L h k f lift same end.TurnsUsed turns bs t more e = (e.0, e.1, f t.state e.2, e.3, e.4, lift [] None e.5)
-ends_as P Q At K L h k f lift same end.WireFault turns bs t more e = (e.0, e.1, f t.state e.2, e.3, e.4, lift [] None e.5)
-ends_as P Q At K L h k f lift same (end.DiskFault which) turns bs t more e =
-    let broke = e.0.6 in
+    → EndsWith here P At K h so turns bs t more → EndsWith here Q Unseen L k so turns bs t more
+ends_as here P Q At K L h k f lift same end.Shutdown turns bs t more e = (e.0, e.1, f t.state e.2, e.3, lift [] None e.4)
+ends_as here P Q At K L h k f lift same end.TurnsUsed turns bs t more e = (e.0, e.1, f t.state e.2, e.3, e.4, lift [] None e.5)
+ends_as here P Q At K L h k f lift same end.WireFault turns bs t more e = (e.0, e.1, f t.state e.2, e.3, e.4, lift [] None e.5)
+ends_as here P Q At K L h k f lift same (end.DiskFault which) turns bs t more e =
+    let broke = e.0.7 in
     let broken : IsBroken Unseen L t more h = (
       e.0.0,
       e.0.1,
@@ -73,6 +74,7 @@ ends_as P Q At K L h k f lift same (end.DiskFault which) turns bs t more e =
       e.0.3,
       e.0.4,
       e.0.5,
+      e.0.6,
       record {
         done = broke.done;
         next = broke.next;
@@ -84,18 +86,18 @@ ends_as P Q At K L h k f lift same (end.DiskFault which) turns bs t more e =
         leaves = broke.leaves;
       },
     ) in
-    subst (λ (x : Which → History). EndsWith Q Unseen L x (end.DiskFault which) turns bs t more) (λ j which. sym (same which) j) (broken, e.1)
-ends_as P Q At K L h k f lift same (end.Memory memory) turns bs t more e = ((e.0.0, f e.0.0 e.0.1, cut_as K L t more e.0.0 lift e.0.2), e.1)
+    subst (λ (x : Which → History). EndsWith here Q Unseen L x (end.DiskFault which) turns bs t more) (λ j which. sym (same which) j) (broken, e.1)
+ends_as here P Q At K L h k f lift same (end.Memory memory) turns bs t more e = ((e.0.0, f e.0.0 e.0.1, cut_as K L t more e.0.0 lift e.0.2), e.1)
 
 -- at each moment of the boot and of the run after it
 pub since_boot : (a b : Active) (old mid new now : Which → History) (s : Plain) (acts : List Act) (more : List ℕ)
     → ((which : Which) → now which ≡ new which) → b ≡ after_kept (Some Boot) a
-    → IsOneOrOther a old mid (Some Boot) s → TellsThroughout b mid new (IsPassed (here_of s) (idle (applied Boot s)) acts more)
+    → IsOneOrOther a old mid (Some Boot) s → TellsThroughout b mid new (IsPassed (here_of s) (begins (applied Boot s)) acts more)
     → TellsThroughout a old now (IsPassedSince s acts more)
 since_boot a b old mid new now s acts more same active boot run =
     let P = IsPassedSince s acts more in
     let all = through_then a b run.0 old mid new P (through_made a b old mid (Some Boot) s P active boot (inl refl) (inr ([], acts, refl, inl refl)))
-    (through_as b run.0 mid new (IsPassed (here_of s) (idle (applied Boot s)) acts more) P (λ u at. inr at) run.1) in
+    (through_as b run.0 mid new (IsPassed (here_of s) (begins (applied Boot s)) acts more) P (λ u at. inr at) run.1) in
     subst (λ (h : Which → History). TellsThroughout a old h P) (λ j which. sym (same which) j) (run.0, all)
 
 -- disks that were only read

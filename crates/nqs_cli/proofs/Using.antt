@@ -2,6 +2,8 @@
 use Rattle.std.proofs.Common.{◌≡◌, ◌⊎◌, ◌≤◌, inl, inr, [], ◌∷◌, arith}
 use Rattle.nqs_outside.proofs.Told.{extends_then}
 use Rattle.nqs_outside.specs.Told.{Extends}
+use Rattle.nqs_outside.specs.Streams.{IsUnread}
+use Rattle.nqs_clients.specs.Sides.{IsUnwritten}
 use Rattle.nqs_clients.specs.declared.status.NqsStatus.{NqsStatus}
 use Rattle.nqs_cli.specs.Parts.{MachineTold, Lent, Back, TakesBack}
 use Rattle.nqs_cli.specs.Runs.{Parts, no_parts, behind, lent_and_back, Uses, Seen, IsUntouched, IsWanting, Wants}
@@ -45,3 +47,9 @@ pub untouched : (e : Seen) (Did : Type 0) (parts : Parts) (status : NqsStatus) �
     → Did ⊎ (IsWanting e.faults e.faults_now status × (parts ≡ no_parts)) → (Did × IsUntouched e) ⊎ Wants e parts status
 untouched e Did parts status still (inl did) = inl (did, still)
 untouched e Did parts status still (inr wants) = inr (wants.0, wants.1, still)
+
+-- where nothing was read beside
+pub unread : (e : Seen) (Did : Type 0) (parts : Parts) (status : NqsStatus) → IsUnread e.source
+    → Did ⊎ (IsWanting e.faults e.faults_now status × (parts ≡ no_parts) × IsUnwritten e.sink) → (Did × IsUnread e.source) ⊎ Wants e parts status
+unread e Did parts status still (inl did) = inl (did, still)
+unread e Did parts status still (inr wants) = inr (wants.0, wants.1, (still, wants.2))

@@ -9,7 +9,7 @@ use Rattle.nqs_clients.specs.declared.status.NqsStatus.TheVariants.{DiskFault, T
 use Rattle.nqs_cli.specs.Ends.{status_of_end}
 use Rattle.nqs_cli.specs.Runs.{Parts, Place, place, Seen, IsWanting, Wants, Does, DoesOrWants, HasLooked, RunsHere, RunsAt, has_disks}
 use Rattle.nqs_cli.specs.declared.form.Form.{Form}
-use Rattle.nqs_cli.specs.declared.form.Form.TheVariants.{Format, Daemon, Client, Shepherd}
+use Rattle.nqs_cli.specs.declared.form.Form.TheVariants.{Format, Daemon, Balance, Client, Shepherd}
 use Rattle.nqs_cli.specs.declared.machine.MachineEnd.{MachineEnd}
 use Rattle.nqs_cli.specs.declared.machine.MachineEnd.TheVariants as machine
 
@@ -52,6 +52,7 @@ module _ (a : ℕ) (e : Seen) (later : a ≤ e.faults) where
   done_since : (at : Place) (form : Form) (parts : Parts) (status : NqsStatus) → Does e at form parts status → Does (since a e) at form parts status
   done_since at Format parts status did = did
   done_since at (Daemon turns) parts status did = did
+  done_since at (Balance b) parts status did = did
   done_since at (Client errand) parts status did = did
   done_since at (Shepherd named start) parts status did = did
 

@@ -3,13 +3,13 @@
 use Rattle.std.specs.Prelude.{◌≡◌, ◌⊎◌, ℕ, Bool, true, List, [], ◌∷◌, ◌++◌, codes, Option, None, Some}
 use Rattle.std.specs.List.{list_all}
 use Rattle.nqs_types.specs.declared.message.Tool.{Tool}
-use Rattle.nqs_types.specs.declared.message.Tool.TheVariants.{Qsub, Qstat, Qdel, Qmgr, Tick}
+use Rattle.nqs_types.specs.declared.message.Tool.TheVariants.{Qsub, Qstat, Qdel, Qmgr, Tick, Rqstat, Rqdel}
 use Rattle.nqs_clients.specs.declared.status.NqsStatus.{NqsStatus}
 use Rattle.nqs_seal.specs.Caller.{is_other, asked_as}
 use Rattle.nqs_cli.specs.Forms.{Words}
 use Rattle.nqs_cli.specs.Runs.{Seen, Parts, Runs, IsRefused, IsUntouched, LacksMemory, no_parts}
 use Rattle.nqs_cli.specs.declared.form.Form.{Form}
-use Rattle.nqs_cli.specs.declared.form.Form.TheVariants.{Format, Daemon, Client, Shepherd}
+use Rattle.nqs_cli.specs.declared.form.Form.TheVariants.{Format, Daemon, Balance, Client, Shepherd}
 
 -- the words with the name put in do what they do; words that no caller may say are refused
 abbrev pub RunsAsked : Seen → Option Words → Parts → NqsStatus → Type 0
@@ -27,6 +27,8 @@ IsOfUsers Qsub = Unit {0}
 IsOfUsers Qstat = Unit {0}
 IsOfUsers Qdel = Unit {0}
 IsOfUsers Qmgr = Unit {0}
+IsOfUsers Rqstat = Unit {0}
+IsOfUsers Rqdel = Unit {0}
 IsOfUsers Tick = ⊥
 
 -- a daemon is asked, for this user, by one of the tools of users
@@ -34,6 +36,7 @@ abbrev pub AsksAs : List ℕ → Form → Type 0
 AsksAs name (Client errand) = (errand.user ≡ name) × IsOfUsers errand.tool
 AsksAs name Format = ⊥
 AsksAs name (Daemon turns) = ⊥
+AsksAs name (Balance b) = ⊥
 AsksAs name (Shepherd named start) = ⊥
 
 -- the option of this folder ends the words, and no other of them is that option

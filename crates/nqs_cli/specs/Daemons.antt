@@ -23,7 +23,7 @@ use Rattle.nqs_serve.specs.Ends.{EndsWith, stops}
 use Rattle.nqs_serve.specs.Events.{Here}
 use Rattle.nqs_serve.specs.Moments.{TellsThroughout, IsPassed}
 use Rattle.nqs_serve.specs.Keeping.{AreKept}
-use Rattle.nqs_serve.specs.Runs.{Act, Turn, idle, Begun, AreHeard, Ran, run_calls}
+use Rattle.nqs_serve.specs.Runs.{Act, Turn, begins, Begun, AreHeard, Ran, run_calls}
 use Rattle.nqs_serve.specs.Tellings.{Telling, telling}
 use Rattle.nqs_serve.specs.declared.daemon.ServeEnd.{ServeEnd}
 use Rattle.nqs_serve.specs.declared.daemon.ServeEnd.TheVariants as end
@@ -74,7 +74,7 @@ IsHere tells me names d = IsTrue tells → (s : Plain) × IsThere d s × (is_her
 
 -- a state that the disks pass: the one before the boot, or one that the run from the boot on passes
 abbrev pub IsPassedSince : Plain → List Act → List ℕ → Plain → Type 0
-IsPassedSince s acts more u = (u ≡ s) ⊎ IsPassed (here_of s) (idle (applied Boot s)) acts more u
+IsPassedSince s acts more u = (u ≡ s) ⊎ IsPassed (here_of s) (begins (applied Boot s)) acts more u
 
 -- what a boot does of which nothing goes out
 abbrev pub booted : Stepped (List ℕ)
@@ -90,9 +90,9 @@ KeptSince a was now s calls done failed = AreKept a was.histories now.histories 
 abbrev pub HasServed : Bool → HostId → List (List ℕ) → ℕ → Outside → Outside → ServeEnd → Type 0
 HasServed tells me names turns was now end = IsTrue tells → (s : Plain) × IsThere was.disks s × (is_here me names s ≡ true)
     × ((acts : List Act) × (t : Turn) × (more : Begun) × (a : Active) × IsNamed was.disks a
-    × AreHeard (here_of s) [] acts × Ran (here_of s) acts (idle (applied Boot s)) t more (telling_of was) (telling_of now)
-    × EndsWith (Leaves now.disks) Unseen (KeptSince a was.disks now.disks s (run_calls (here_of s) (idle (applied Boot s)) acts))
-    now.disks.histories end turns (stops (here_of s) (idle (applied Boot s)) acts) t more
+    × AreHeard (here_of s) [] acts × Ran (here_of s) acts (begins (applied Boot s)) t more (telling_of was) (telling_of now)
+    × EndsWith (here_of s) (Leaves now.disks) Unseen (KeptSince a was.disks now.disks s (run_calls (here_of s) (begins (applied Boot s)) acts))
+    now.disks.histories end turns (stops (here_of s) (begins (applied Boot s)) acts) t more
     × TellsThroughout a was.disks.histories now.disks.histories (IsPassedSince s acts more.moments))
 
 -- The disks tell no host, or another: they are left as they are.

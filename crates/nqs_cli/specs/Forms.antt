@@ -6,11 +6,12 @@ use Rattle.std.specs.declared.result.Result.{Result}
 use Rattle.nqs_words.specs.Values.{number_of, named_of}
 use Rattle.nqs_words.specs.declared.values.NotNamed.{NotNamed}
 use Rattle.nqs_types.specs.declared.ids.Named.{Named}
+use Rattle.nqs_balance.specs.Words.{balancing_of}
 use Rattle.nqs_clients.specs.Errand.{errand_of}
 use Rattle.nqs_clients.specs.declared.errand.WordsStop.{WordsStop}
 use Rattle.nqs_clients.specs.declared.errand.WordsStop.TheVariants.{BadWords, Memory}
 use Rattle.nqs_cli.specs.declared.form.Form.{Form}
-use Rattle.nqs_cli.specs.declared.form.Form.TheVariants.{Format, Daemon, Client, Shepherd}
+use Rattle.nqs_cli.specs.declared.form.Form.TheVariants.{Format, Daemon, Balance, Client, Shepherd}
 use Rattle.nqs_cli.specs.declared.form.Order as order
 
 -- the words after the program's name
@@ -40,13 +41,15 @@ shepherd_of (id ∷ []) = None
 shepherd_of (id ∷ start ∷ []) = job_of (named_of id) (number_of 0 65535 start)
 shepherd_of (id ∷ start ∷ word ∷ more) = None
 
--- by the first word, what those behind DIR and HOST ask for: of a client its errand
+-- by the first word, what those behind DIR and HOST ask for: of a client its errand, of a balance
+-- its user, pipe queue and destinations
 unfoldable pub form_of : List ℕ → Words → Option Form
 form_of tool more =
     if bytes_eq tool (codes "format") then format_of more
     else (if bytes_eq tool (codes "daemon") then daemon_of more
     else (if bytes_eq tool (codes "shepherd") then shepherd_of more
-    else option_map Client (errand_of tool more)))
+    else (if bytes_eq tool (codes "balance") then option_map Balance (balancing_of more)
+    else option_map Client (errand_of tool more))))
 
 -- what reading these words answers; the cases exclude each other, but that memory may be wanting
 abbrev pub ReadsForm : List ℕ → Words → Result Form WordsStop → Type 0

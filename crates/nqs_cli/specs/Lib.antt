@@ -6,3 +6,4 @@ pub mod Daemons
 pub mod Runs
 pub mod Ends
 pub mod Keys
+pub mod Sockets

@@ -4,7 +4,7 @@ use Rattle.std.specs.declared.option.Option.{Option}
 use Rattle.std.specs.declared.result.Result.{Result}
 use Rattle.nqs_types.specs.declared.ids.HostId.{HostId}
 use Rattle.nqs_types.specs.declared.world.Which.{Which}
-use Rattle.nqs_outside.specs.Asked.{Traffic, Asked, Print, Filing, Job}
+use Rattle.nqs_outside.specs.Asked.{Asked, Print, Filing, Job}
 use Rattle.nqs_outside.specs.Causes.{Rose}
 use Rattle.nqs_outside.specs.History.{History}
 use Rattle.nqs_outside.specs.Told.{Extends}
@@ -15,6 +15,8 @@ use Rattle.nqs_outside.specs.declared.outlet.Outlet as outlet
 use Rattle.nqs_outside.specs.declared.printer.Printer as printer
 use Rattle.nqs_outside.specs.declared.runner.Runner as runner
 use Rattle.nqs_outside.specs.declared.wire.Wire as wire
+pub use Rattle.nqs_clients.specs.Sides.{WireTold}
+use Rattle.nqs_clients.specs.Sides.{wire_tells}
 use Rattle.nqs_store.specs.Disks.{disk_at, histories_of}
 use Rattle.nqs_store.specs.declared.disks.Disks.{Disks}
 use Rattle.nqs_cli.specs.declared.parts.Around.{Around}
@@ -23,12 +25,6 @@ use Rattle.nqs_cli.specs.declared.parts.Around.{Around}
 pub record DisksTold : Type 0 where
   pub histories : Which → History
   pub faults : Which → ℕ
-
--- a wire: what came and what was to be sent, call by call, and how often a call has failed
-pub record WireTold : Type 0 where
-  pub traffic : Option (List Traffic)
-  pub receive_faults : ℕ
-  pub send_faults : ℕ
 
 -- the parts of a daemon: its disks, and what passed its wire, what it asked its launcher, printed,
 -- wrote as files, and which moments it was given
@@ -54,6 +50,8 @@ pub data Lent : Type 0 where
   daemon_of : (dir : List ℕ) (host : HostId) (told : Outside) → Lent
   -- the wire of a client, and its port
   client_of : (dir : List ℕ) (port : ℕ) (told : WireTold) → Lent
+  -- the wire of a client of this host that reaches all hosts of its site, and its port
+  asker_of : (dir : List ℕ) (host : HostId) (port : ℕ) (told : WireTold) → Lent
   -- the parts of a shepherd, and the port of its wire
   shepherd_of : (dir : List ℕ) (host : HostId) (port : ℕ) (told : Tending) → Lent
 
@@ -70,7 +68,7 @@ disks_told {D} g disks = record { histories = histories_of g.history disks; faul
 
 -- what a wire tells
 abbrev pub wire_told : {W : Type 0} → wire.Ghosts W → W → WireTold
-wire_told {W} g w = record { traffic = g.traffic w; receive_faults = g.receive_faults w; send_faults = g.send_faults w }
+wire_told {W} g w = wire_tells g.traffic g.receive_faults g.send_faults w
 
 module _ {D W L P O C : Type 0} (gd : disk.Ghosts D) (gw : wire.Ghosts W) (gl : launcher.Ghosts L) (gp : printer.Ghosts P) (go : outlet.Ghosts O)
     (gc : clock.Ghosts C) where

@@ -15,22 +15,25 @@ use Rattle.nqs_words.specs.Values.{name_of}
 use Rattle.nqs_outside.specs.Causes.{Rose}
 use Rattle.nqs_outside.specs.Streams.{Fed, Sunk, IsUnread}
 use Rattle.nqs_outside.specs.Told.{Extends}
+use Rattle.nqs_balance.specs.Balance.{EndsBalance}
+use Rattle.nqs_balance.specs.Places.{has_hosts}
+use Rattle.nqs_balance.specs.Words.{Wanted}
 use Rattle.nqs_clients.specs.Asking.{Asking}
 use Rattle.nqs_clients.specs.Client.{EndsFor}
 use Rattle.nqs_clients.specs.Shepherd.{EndsWith, Shepherds}
-use Rattle.nqs_clients.specs.Sides.{Wired, IsUnwritten}
+use Rattle.nqs_clients.specs.Sides.{IsUnwritten, wired_of}
 use Rattle.nqs_clients.specs.declared.shepherding.ShepherdEnd.{ShepherdEnd}
 use Rattle.nqs_clients.specs.declared.shepherding.ShepherdEnd.TheVariants as shepherd
 use Rattle.nqs_clients.specs.declared.status.NqsStatus.{NqsStatus}
 use Rattle.nqs_clients.specs.declared.status.NqsStatus.TheVariants.{Done, BadWords, NotNqs, Unread, Memory, NoAnswer, WireFault, MachineFault}
 use Rattle.nqs_cli.specs.Forms.{Words, Ordered, order_of}
 use Rattle.nqs_cli.specs.Parts.{DisksTold, WireTold, Outside, Tending, MachineTold, Lent, Back, names_of, look_of, disks_of, daemon_of, client_of}
-use Rattle.nqs_cli.specs.Parts.{shepherd_of, disks_back, daemon_back, client_back, shepherd_back}
+use Rattle.nqs_cli.specs.Parts.{asker_of, shepherd_of, disks_back, daemon_back, client_back, shepherd_back}
 use Rattle.nqs_cli.specs.Formats.{Formats}
 use Rattle.nqs_cli.specs.Daemons.{Daemons}
 use Rattle.nqs_cli.specs.declared.station.Station.{Station}
 use Rattle.nqs_cli.specs.declared.form.Form.{Form}
-use Rattle.nqs_cli.specs.declared.form.Form.TheVariants.{Format, Daemon, Client, Shepherd}
+use Rattle.nqs_cli.specs.declared.form.Form.TheVariants.{Format, Daemon, Balance, Client, Shepherd}
 
 -- what was handed over, and what came back
 pub record Parts : Type 0 where
@@ -114,18 +117,6 @@ abbrev pub request_named : List (List ℕ) → Named → Option RequestId
 request_named names named =
     if nat_le 1 named.seq && nat_le named.seq 4294967294 then option_map (request named.seq) (host_of names (Some named.host)) else None
 
--- what a wire told before a client and after it
-abbrev pub wired_of : WireTold → WireTold → Wired
-wired_of was now =
-    record {
-      traffic = was.traffic;
-      traffic_now = now.traffic;
-      receive_faults = was.receive_faults;
-      receive_faults_now = now.receive_faults;
-      send_faults = was.send_faults;
-      send_faults_now = now.send_faults;
-    }
-
 -- the disks of the host were formatted
 abbrev pub DoesFormat : Bool → Place → Parts → NqsStatus → Type 0
 DoesFormat tells at parts status = (was now : DisksTold) × (parts ≡ lent_and_back (disks_of at.dir at.me was) (disks_back at.me now))
@@ -140,6 +131,16 @@ DoesDaemon tells at turns parts status = (was now : Outside) × (parts ≡ lent_
 abbrev pub DoesClient : Place → Asking → Fed → Sunk → Parts → NqsStatus → Type 0
 DoesClient at errand source sink parts status = (port : ℕ) × (was now : WireTold)
     × (parts ≡ lent_and_back (client_of at.dir port was) (client_back now)) × EndsFor port at.me errand source (wired_of was now) sink status
+
+-- a pipe queue of the host was balanced
+abbrev pub DoesBalance : Place → Wanted → Sunk → Parts → NqsStatus → Type 0
+DoesBalance at b sink parts status = (port : ℕ) × (was now : WireTold)
+    × (parts ≡ lent_and_back (asker_of at.dir at.me port was) (client_back now)) × EndsBalance port at.names at.me b was now sink status
+
+-- it was, where the hosts of its destinations are of the site
+abbrev pub Balances : Place → Bool → Wanted → Sunk → Parts → NqsStatus → Type 0
+Balances at true b sink parts status = DoesBalance at b sink parts status
+Balances at false b sink parts status = (parts ≡ no_parts) × (status ≡ BadWords) × IsUnwritten sink
 
 -- where a shepherd is through
 abbrev pub status_of_shepherd : ShepherdEnd → NqsStatus
@@ -165,6 +166,7 @@ Tends at (Some id) start parts status = DoesShepherd at id start parts status
 abbrev pub Does : Seen → Place → Form → Parts → NqsStatus → Type 0
 Does e at Format parts status = DoesFormat e.tells at parts status × IsUntouched e
 Does e at (Daemon turns) parts status = DoesDaemon e.tells at turns parts status × IsUntouched e
+Does e at (Balance b) parts status = Balances at (has_hosts at.names b.destinations) b e.sink parts status × IsUnread e.source
 Does e at (Client errand) parts status = DoesClient at errand e.source e.sink parts status
 Does e at (Shepherd named start) parts status = Tends at (request_named at.names named) start parts status × IsUntouched e
 
@@ -187,6 +189,7 @@ LooksFirst e at form parts status = Wants e parts status
 abbrev pub has_disks : Form → Bool
 has_disks Format = true
 has_disks (Daemon turns) = true
+has_disks (Balance b) = false
 has_disks (Client errand) = false
 has_disks (Shepherd named start) = false
 

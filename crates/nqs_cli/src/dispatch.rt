@@ -8,6 +8,7 @@ ghost use Rattle.nqs_cli.specs.Runs.{Uses, Tends, DoesOrWants, LooksFirst, RunsH
 ghost use Rattle.nqs_cli.specs.Runs.{has_disks, host_of, host_named, request_named};
 
 use crate::asking::{ask, tend};
+use crate::balancing::rebalance;
 use crate::daemon::daemon;
 use crate::form::{Form, Order, read_order};
 use crate::format::format;
@@ -99,6 +100,7 @@ fn run_at<M: Machine, S: Source, K: Sink>(
     match form {
         Form::Format => format(station, machine),
         Form::Daemon(turns) => daemon(station, machine, turns),
+        Form::Balance(words) => rebalance(station, &words, machine, out),
         Form::Client(errand) => ask(station, errand, machine, input, out),
         Form::Shepherd(id, start) => tend_named(station, machine, &id, start),
     }
@@ -110,7 +112,7 @@ fn has_disks(form: &Form) -> bool
 {
     match form {
         Form::Format | Form::Daemon(_) => true,
-        Form::Client(_) | Form::Shepherd(_, _) => false,
+        Form::Balance(_) | Form::Client(_) | Form::Shepherd(_, _) => false,
     }
 }
 

@@ -5,6 +5,7 @@ ghost use Rattle.std.specs.Prelude.{◌≡◌, Ok, Err, IfSome, IfNone, map, str
 ghost use Rattle.nqs_words.specs.Values.{number_of, named_of};
 ghost use Rattle.nqs_cli.specs.Forms.{format_of, daemon_of, job_of, shepherd_of, form_of, ReadsForm, ReadsOrder};
 
+use nqs_balance::{Balancing, read_balancing};
 use nqs_clients::{Errand, WordsStop, read_errand};
 use nqs_types::Named;
 use nqs_words::{named_of, number_of};
@@ -18,7 +19,10 @@ pub enum Form {
     /// `daemon DIR HOST TURNS`: serves for so many turns, each of which is a datagram or a quiet
     /// second.
     Daemon(u64),
-    /// `qsub|qstat|qdel|qmgr DIR HOST USER [WORD]..` and `tick DIR HOST USER`: does this errand at
+    /// `balance DIR HOST USER PIPE Q@H..`: asks the hosts of the destinations how many requests
+    /// these have, and puts the host's pipe queue into the order of their loads.
+    Balance(Balancing),
+    /// `qsub|qstat|qdel|qmgr|rqstat|rqdel DIR HOST USER [WORD]..` and `tick DIR HOST USER`: does this errand at
     /// the host's daemon.
     Client(Errand),
     /// `shepherd DIR HOST ID START`: runs the job of this start, and tells the daemon its end.
@@ -111,6 +115,12 @@ fn read_form(alloc: Global, tool: &str, words: &[String]) -> Result<Form, WordsS
     }
     if tool == "shepherd" {
         return found(shepherd_of(words));
+    }
+    if tool == "balance" {
+        return match read_balancing(alloc, words) {
+            Ok(balancing) => Ok(Form::Balance(balancing)),
+            Err(stop) => Err(stop),
+        };
     }
     match read_errand(alloc, tool, words) {
         Ok(errand) => Ok(Form::Client(errand)),

@@ -78,7 +78,7 @@ pub trait Notices {
 /// The machine. `dir` is the folder of a site; all that was handed out is to be handed back.
 pub trait Machine: Notices {
     ghost use Rattle.nqs_cli.specs.Parts.{MachineTold, HandsOver, TakesBack, disks_told, wire_told, daemon_told, shepherd_told};
-    ghost use Rattle.nqs_cli.specs.Parts.{names_of, look_of, disks_of, daemon_of, client_of, shepherd_of};
+    ghost use Rattle.nqs_cli.specs.Parts.{names_of, look_of, disks_of, daemon_of, client_of, asker_of, shepherd_of};
     ghost use Rattle.nqs_cli.specs.Parts.{disks_back, daemon_back, client_back, shepherd_back};
 
     type D: Disk + Drop;
@@ -132,6 +132,11 @@ pub trait Machine: Notices {
     /// The wire of a client, and its port.
     fn client(&mut self, dir: &str) -> Result<(Self::W, u16), MachineEnd>
         ensures { HandsOver (told self.old) (told self.new) (λ part. client_of dir.now part.1 (wire_told Self.W.Wire part.0)) MachineEnd.Failed result };
+
+    /// The wire of a client of a host that reaches all hosts of the site, and its port. It goes
+    /// back as a client's does.
+    fn asker(&mut self, dir: &str, host: HostId) -> Result<(Self::W, u16), MachineEnd>
+        ensures { HandsOver (told self.old) (told self.new) (λ part. asker_of dir.now host part.1 (wire_told Self.W.Wire part.0)) MachineEnd.Failed result };
 
     /// What runs a job of a host to its end, and the wire of its shepherd.
     fn shepherd(

@@ -366,6 +366,18 @@ impl RealMachine {
         self.free_wire(&site, key)
     }
 
+    // The wire of a client of a host that reaches all hosts of the site, and its port.
+    fn asker_wire(&self, dir: &str, host: HostId) -> Result<(RealWire, u16), PartFault> {
+        let site = site_at(&self.rt, dir)?;
+        let key = key_of(&self.rt, dir, &site)?;
+        let (socket, port) = had(
+            &self.rt,
+            "a socket at the host's address",
+            UdpWire::of_asker(self.rt, &site, host, WAIT),
+        )?;
+        Ok((wire_under(&self.rt, socket, key)?, port))
+    }
+
     fn own_launcher(
         &self,
         dir: &str,
@@ -565,6 +577,11 @@ impl Machine for RealMachine {
 
     fn client(&mut self, dir: &str) -> Result<(RealWire, u16), MachineEnd> {
         let made = self.client_wire(dir);
+        self.answer(made)
+    }
+
+    fn asker(&mut self, dir: &str, host: HostId) -> Result<(RealWire, u16), MachineEnd> {
+        let made = self.asker_wire(dir, host);
         self.answer(made)
     }
 

@@ -101,13 +101,14 @@ pub(crate) fn tell_used(rt: &HostRuntime, folder: &str) -> io::Result<()> {
 /// The forms that the words of `nqs` may have.
 pub(crate) const FORMS: &str = "usage: nqs format DIR HOST
        nqs daemon DIR HOST TURNS
-       nqs qsub|qstat|qdel|qmgr DIR HOST USER [WORD]..
+       nqs qsub|qstat|qdel|qmgr|rqstat|rqdel DIR HOST USER [WORD]..
        nqs tick DIR HOST USER
+       nqs balance DIR HOST USER PIPE Q@H..
        nqs shepherd DIR HOST SEQ.HOST START
 All WORDs together have at most 4,000 bytes, where each counts 4 more.";
 
 /// The forms that the words of `nqs_ask` may have.
-pub(crate) const CALLER_FORMS: &str = "usage: nqs_ask qsub|qstat|qdel|qmgr DIR HOST [WORD]..
+pub(crate) const CALLER_FORMS: &str = "usage: nqs_ask qsub|qstat|qdel|qmgr|rqstat|rqdel DIR HOST [WORD]..
 All WORDs together have at most 4,000 bytes, where each counts 4 more.";
 
 /// Says which forms the words may have.

@@ -1,7 +1,8 @@
 //! The wire of a site over a socket: open, or under the site's key.
 
-ghost use Rattle.std.specs.Prelude.{IfOk};
-ghost use Rattle.nqs_seal.specs.Wires.{IsUnder};
+ghost use Rattle.std.specs.Prelude.{◌≡◌, IfOk};
+ghost use Rattle.nqs_cli.specs.Sockets.{Believes, below};
+ghost use Rattle.nqs_seal.specs.Wires.{IsUnder, site_traffic, site_receives, site_sends};
 
 use nqs_base::Memory;
 use nqs_outside::{Address, Failed, Received, Wire};
@@ -10,7 +11,7 @@ use nqs_seal::{SiteKey, SiteWire};
 use std::alloc::Global;
 
 /// A socket as the wire of its site, which is open or under the site's key. It tells what that wire
-/// does, so nothing.
+/// does, so nothing. What it hands up, which under a key has a true tag, its socket believes.
 #[derive(Drop)]
 pub struct RealWire {
     pub(crate) inside: SiteWire<UdpWire>,
@@ -24,6 +25,21 @@ impl RealWire {
         let inside = SiteWire::new(alloc, socket, key)?;
         Ok(RealWire { inside })
     }
+
+    // The socket believes a datagram that is handed up: a client elsewhere is then answered there.
+    fn believe(&mut self, received: &Result<Received, Failed>)
+        ensures socket { Believes received.now (below self.old.inside) (below self.new.inside) }
+        ensures traffic { site_traffic self.new.inside ≡ site_traffic self.old.inside }
+        ensures receives { site_receives self.new.inside ≡ site_receives self.old.inside }
+        ensures sends { site_sends self.new.inside ≡ site_sends self.old.inside }
+    {
+        if let Ok(Received::Datagram(_)) = received {
+            match &mut self.inside {
+                SiteWire::Open(socket) => socket.believe(),
+                SiteWire::Sealed(wire) => wire.inner.believe(),
+            }
+        }
+    }
 }
 
 impl Wire for RealWire {
@@ -36,7 +52,9 @@ impl Wire for RealWire {
     ghost send_faults = { λ wire. site_sends wire.inside };
 
     fn receive(&mut self, buf: &mut [u8]) -> Result<Received, Failed> {
-        self.inside.receive(buf)
+        let received = self.inside.receive(buf);
+        self.believe(&received);
+        received
     }
 
     fn send(&mut self, to: Address, bytes: &[u8]) -> Result<(), Failed> {

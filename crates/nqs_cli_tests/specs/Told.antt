@@ -18,8 +18,8 @@ use Rattle.nqs_fakes.specs.declared.printer.MemPrinter.{MemPrinter}
 use Rattle.nqs_fakes.specs.declared.wire.MemWire.{MemWire}
 use Rattle.nqs_store.specs.Disks.{disk_at}
 use Rattle.nqs_store.specs.declared.disks.Disks.{Disks}
-use Rattle.nqs_cli.specs.Parts.{DisksTold, WireTold, Outside, Tending, Lent, Back, names_of, look_of, disks_of, daemon_of, client_of, shepherd_of}
-use Rattle.nqs_cli.specs.Parts.{disks_back, daemon_back, client_back, shepherd_back}
+use Rattle.nqs_cli.specs.Parts.{DisksTold, WireTold, Outside, Tending, Lent, Back, names_of, look_of, disks_of, daemon_of, client_of}
+use Rattle.nqs_cli.specs.Parts.{asker_of, shepherd_of, disks_back, daemon_back, client_back, shepherd_back}
 use Rattle.nqs_cli.specs.declared.parts.Around.{Around}
 use Rattle.nqs_cli_tests.specs.declared.kept.Images.{Images}
 use Rattle.nqs_cli_tests.specs.declared.kept.Lending.{Lending}
@@ -57,6 +57,7 @@ lent_of (lent.Look dir host missing) = look_of dir host missing
 lent_of (lent.Disks dir host images) = disks_of dir host (fresh_disks images)
 lent_of (lent.Daemon dir host images) = daemon_of dir host (fresh_daemon images)
 lent_of (lent.Client dir port) = client_of dir port fresh_wire
+lent_of (lent.Asker dir host port) = asker_of dir host port fresh_wire
 lent_of (lent.Shepherd dir host port) = shepherd_of dir host port fresh_tending
 
 -- what disks in memory tell

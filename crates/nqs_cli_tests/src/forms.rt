@@ -169,15 +169,17 @@ fn refuses_words(rt: HostRuntime) -> Result<(), Fail> {
         ends(alloc, &mut machine, "qstat D alpha")?,
         ends(alloc, &mut machine, "qstat D alpha 9")?,
         ends(alloc, &mut machine, "shepherd D alpha 0.alpha 1")?,
+        ends(alloc, &mut machine, "balance D alpha ann out")?,
     ];
     let hostless = [
         ends(alloc, &mut machine, "format D beta")?,
         ends(alloc, &mut machine, "qstat D beta ann")?,
         ends(alloc, &mut machine, "shepherd D alpha 7.beta 1")?,
+        ends(alloc, &mut machine, "balance D alpha ann out b@beta")?,
     ];
     drop(machine);
-    assert_eq!(rt; formless, [ended(2, 0, 0, 0); 5]);
-    assert_eq!(rt; hostless, [ended(2, 0, 1, 0); 3]);
+    assert_eq!(rt; formless, [ended(2, 0, 0, 0); 6]);
+    assert_eq!(rt; hostless, [ended(2, 0, 1, 0); 4]);
     Ok(())
 }
 
@@ -238,6 +240,22 @@ fn tells_what_it_lends(rt: HostRuntime) -> Result<(), Fail> {
     Ok(())
 }
 
+// A destination's host and then the queue's own are silent: an ask and ten receives each.
+#[test]
+fn balances(rt: HostRuntime) -> Result<(), Fail> {
+    let alloc = rt.alloc();
+    let mut machine = machine_of(alloc, &[], 0)?;
+    let told = tells(alloc, &mut machine, "balance two beta ann out b@alpha")?;
+    let silent = ends(alloc, &mut machine, "balance two alpha ann out b@beta")?;
+    drop(machine);
+    assert_eq!(rt;
+        told.as_str(),
+        "lent names of two: 2\nlent asker two 1 at 9\nback client, passed 22\n"
+    );
+    assert_eq!(rt; silent, ended(7, 15, 2, 1));
+    Ok(())
+}
+
 // The call with this number fails: nothing more is lent.
 fn wants(alloc: Global, line: &str, failing: u64) -> Result<End, Memory> {
     let mut machine = machine_of(alloc, &[], failing)?;
@@ -255,6 +273,7 @@ fn wants_a_part(rt: HostRuntime) -> Result<(), Fail> {
         wants(alloc, "format D alpha", 3)?,
         wants(alloc, "tick D alpha ann", 2)?,
         wants(alloc, "shepherd D alpha 7.alpha 1", 2)?,
+        wants(alloc, "balance D alpha ann out b@alpha", 2)?,
     ];
     let expected = [
         ended(11, 0, 0, 0),
@@ -262,6 +281,7 @@ fn wants_a_part(rt: HostRuntime) -> Result<(), Fail> {
         ended(11, 0, 2, 0),
         ended(11, 0, 1, 0),
         ended(11, 0, 2, 0),
+        ended(11, 0, 1, 0),
         ended(11, 0, 1, 0),
         ended(11, 0, 1, 0),
     ];

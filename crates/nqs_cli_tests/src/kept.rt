@@ -27,6 +27,7 @@ pub enum Lending {
     Disks(Bytes, HostId, Images),
     Daemon(Bytes, HostId, Images),
     Client(Bytes, u16),
+    Asker(Bytes, HostId, u16),
     Shepherd(Bytes, HostId, u16),
 }
 

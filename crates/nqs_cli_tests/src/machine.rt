@@ -484,6 +484,17 @@ impl Machine for MemMachine {
         }
     }
 
+    fn asker(&mut self, dir: &str, host: HostId) -> Result<(MemWire, u16), MachineEnd> {
+        self.ask()?;
+        match dir_of(self.alloc, dir) {
+            Ok(dir) => {
+                self.keep(Lending::Asker(dir, host, PORT))?;
+                Ok((self.new_wire(), PORT))
+            }
+            Err(memory) => Err(MachineEnd::Memory(memory)),
+        }
+    }
+
     fn shepherd(
         &mut self,
         dir: &str,

@@ -56,6 +56,9 @@ fn lent_text(alloc: Global, lending: &Lending) -> Result<String, AllocError> {
             format!(in alloc; "lent daemon {} {}\n", text(dir), host.0)
         }
         Lending::Client(dir, port) => format!(in alloc; "lent client {} at {port}\n", text(dir)),
+        Lending::Asker(dir, host, port) => {
+            format!(in alloc; "lent asker {} {} at {port}\n", text(dir), host.0)
+        }
         Lending::Shepherd(dir, host, port) => {
             format!(in alloc; "lent shepherd {} {} at {port}\n", text(dir), host.0)
         }

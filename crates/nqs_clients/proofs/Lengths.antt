@@ -5,7 +5,7 @@ use Rattle.std.specs.declared.option.Option.TheVariants.{Some}
 use Rattle.std.proofs.lemmas.Bool.{leb-true, le-leb}
 use Rattle.std.proofs.lemmas.List.Sums.{sum_by-cons}
 use Rattle.nqs_types.specs.declared.message.Tool.{Tool}
-use Rattle.nqs_types.specs.declared.message.Tool.TheVariants.{Qsub, Qstat, Qdel, Qmgr, Tick}
+use Rattle.nqs_types.specs.declared.message.Tool.TheVariants.{Qsub, Qstat, Qdel, Qmgr, Tick, Rqstat, Rqdel}
 use Rattle.nqs_codec.specs.Takes.{IsLong}
 use Rattle.nqs_packets.specs.Letters.{words_length}
 use Rattle.nqs_packets.specs.Values.{AreWords}
@@ -47,6 +47,8 @@ pub may_words : (tool : Tool) (own ws : List (List ℕ)) → are_short own ≡ t
 may_words Qsub own ws short same = let may = own_words own short in subst (AreWords Qsub) (some_words own ws same) ((refl, may.0), may.1)
 may_words Qstat own ws short same = let may = own_words own short in subst (AreWords Qstat) (some_words own ws same) ((refl, may.0), may.1)
 may_words Qdel own ws short same = let may = own_words own short in subst (AreWords Qdel) (some_words own ws same) ((refl, may.0), may.1)
+may_words Rqstat own ws short same = let may = own_words own short in subst (AreWords Rqstat) (some_words own ws same) ((refl, may.0), may.1)
+may_words Rqdel own ws short same = let may = own_words own short in subst (AreWords Rqdel) (some_words own ws same) ((refl, may.0), may.1)
 may_words Qmgr own ws short same = subst (AreWords Qmgr) (some_words (joined own ∷ []) ws same) ((refl, lit< tt), (long_line own (leb-true _ _ short), tt))
 may_words Tick [] ws short same = subst (AreWords Tick) (some_words [] ws same) ((refl, lit< tt), tt)
 may_words Tick (w ∷ own) ws short same = absurd (let impossible : ⊥ = cc in impossible)
@@ -58,6 +60,8 @@ few_words tool own ws short same = le-leb (words_length ws) 4004 (by tool own sa
     by Qsub os is few = subst (λ l. words_length l ≤ 4004) (some_words os ws is) (omega (arith, few))
     by Qstat os is few = subst (λ l. words_length l ≤ 4004) (some_words os ws is) (omega (arith, few))
     by Qdel os is few = subst (λ l. words_length l ≤ 4004) (some_words os ws is) (omega (arith, few))
+    by Rqstat os is few = subst (λ l. words_length l ≤ 4004) (some_words os ws is) (omega (arith, few))
+    by Rqdel os is few = subst (λ l. words_length l ≤ 4004) (some_words os ws is) (omega (arith, few))
     by Qmgr os is few =
         subst (λ l. words_length l ≤ 4004) (some_words (joined os ∷ []) ws is) (omega (arith, few, taken_cons (joined os) [], joined_few os))
     by Tick [] is few = subst (λ l. words_length l ≤ 4004) (some_words [] ws is) (omega arith)

@@ -16,7 +16,7 @@ use Rattle.nqs_types.specs.declared.message.Tool.{Tool}
 use Rattle.nqs_types.specs.declared.message.Tool.TheVariants.{Qsub}
 use Rattle.nqs_rules.specs.Transcript.{reply_text}
 use Rattle.nqs_clients.specs.Asking.{Asking}
-use Rattle.nqs_clients.specs.Exchange.{Exchanges}
+use Rattle.nqs_clients.specs.Exchange.{Exchanges, token}
 use Rattle.nqs_clients.specs.Sides.{Wired, IsSilent, IsUnwritten, Writes, FailsWriting}
 use Rattle.nqs_clients.specs.declared.answer.Answer.{Answer}
 use Rattle.nqs_clients.specs.declared.datagram.WaitStop.TheVariants as stop
@@ -52,7 +52,7 @@ EndsWriting ok text sink _ = ⊥
 
 -- the answer came, and it ends with it
 abbrev pub EndsAnswered : ℕ → HostId → Asking → List ℕ → Wired → Sunk → NqsStatus → Type 0
-EndsAnswered port host e script wire sink result = (answer : Answer) × Exchanges port host e script wire (Ok (Some answer))
+EndsAnswered port host e script wire sink result = (answer : Answer) × Exchanges token port host e script wire (Ok (Some answer))
     × EndsWriting answer.ok answer.text sink result
 
 -- how the client ends that has its script
@@ -60,10 +60,10 @@ abbrev pub EndsAsking : ℕ → HostId → Asking → List ℕ → Wired → Sun
 EndsAsking port host e script wire sink status.Done = EndsAnswered port host e script wire sink status.Done
 EndsAsking port host e script wire sink status.Refused = EndsAnswered port host e script wire sink status.Refused
 EndsAsking port host e script wire sink status.WriteFault = EndsAnswered port host e script wire sink status.WriteFault
-EndsAsking port host e script wire sink status.NoAnswer = Exchanges port host e script wire (Ok None) × IsUnwritten sink
-EndsAsking port host e script wire sink status.WireFault = Exchanges port host e script wire (Err stop.Fault) × IsUnwritten sink
-EndsAsking port host e script wire sink (status.Memory memory) = Exchanges port host e script wire (Err (stop.Memory memory)) × IsUnwritten sink
-EndsAsking port host e script wire sink (status.Unread unread) = Exchanges port host e script wire (Err (stop.Unread unread)) × IsUnwritten sink
+EndsAsking port host e script wire sink status.NoAnswer = Exchanges token port host e script wire (Ok None) × IsUnwritten sink
+EndsAsking port host e script wire sink status.WireFault = Exchanges token port host e script wire (Err stop.Fault) × IsUnwritten sink
+EndsAsking port host e script wire sink (status.Memory memory) = Exchanges token port host e script wire (Err (stop.Memory memory)) × IsUnwritten sink
+EndsAsking port host e script wire sink (status.Unread unread) = Exchanges token port host e script wire (Err (stop.Unread unread)) × IsUnwritten sink
 EndsAsking port host e script wire sink _ = ⊥
 
 -- it has its script, and so it ends

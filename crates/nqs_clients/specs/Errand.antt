@@ -7,7 +7,7 @@ use Rattle.std.specs.declared.option.Option.TheVariants.{None, Some}
 use Rattle.std.specs.declared.result.Result.{Result}
 use Rattle.nqs_base.specs.Same.{name_eq}
 use Rattle.nqs_types.specs.declared.message.Tool.{Tool}
-use Rattle.nqs_types.specs.declared.message.Tool.TheVariants.{Qsub, Qstat, Qdel, Qmgr, Tick}
+use Rattle.nqs_types.specs.declared.message.Tool.TheVariants.{Qsub, Qstat, Qdel, Qmgr, Tick, Rqstat, Rqdel}
 use Rattle.nqs_words.specs.Values.{name_of}
 use Rattle.nqs_clients.specs.Asking.{Asking, asking}
 use Rattle.nqs_clients.specs.declared.errand.WordsStop.{WordsStop}
@@ -20,7 +20,9 @@ tool_of word =
     if name_eq word (codes "qstat") then Some Qstat else
     if name_eq word (codes "qdel") then Some Qdel else
     if name_eq word (codes "qmgr") then Some Qmgr else
-    if name_eq word (codes "tick") then Some Tick else None
+    if name_eq word (codes "tick") then Some Tick else
+    if name_eq word (codes "rqstat") then Some Rqstat else
+    if name_eq word (codes "rqdel") then Some Rqdel else None
 
 -- the words in a row, with a space between each two
 abbrev pub joined : List (List ℕ) → List ℕ
@@ -32,6 +34,8 @@ abbrev pub words_of : Tool → List (List ℕ) → Option (List (List ℕ))
 words_of Qsub own = Some own
 words_of Qstat own = Some own
 words_of Qdel own = Some own
+words_of Rqstat own = Some own
+words_of Rqdel own = Some own
 words_of Qmgr own = Some (joined own ∷ [])
 words_of Tick [] = Some []
 words_of Tick (word ∷ own) = None

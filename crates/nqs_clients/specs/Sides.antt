@@ -26,6 +26,30 @@ wired traffic receive_faults send_faults old new =
       send_faults_now = send_faults new;
     }
 
+-- what a wire tells at a moment: what came and what was to be sent, call by call, and how often a
+-- call has failed
+pub record WireTold : Type 0 where
+  pub traffic : Option (List Traffic)
+  pub receive_faults : ℕ
+  pub send_faults : ℕ
+
+-- the same, by its three ways to tell it
+abbrev pub wire_tells : {W : Type 0} → (W → Option (List Traffic)) → (W → ℕ) → (W → ℕ) → W → WireTold
+wire_tells traffic receive_faults send_faults wire =
+    record { traffic = traffic wire; receive_faults = receive_faults wire; send_faults = send_faults wire }
+
+-- what a wire told at one moment and tells at a later one
+abbrev pub wired_of : WireTold → WireTold → Wired
+wired_of was now =
+    record {
+      traffic = was.traffic;
+      traffic_now = now.traffic;
+      receive_faults = was.receive_faults;
+      receive_faults_now = now.receive_faults;
+      send_faults = was.send_faults;
+      send_faults_now = now.send_faults;
+    }
+
 -- no call of the wire failed: each send that was made went out, and each receive answered
 abbrev pub NoneFailed : Wired → Type 0
 NoneFailed wire = (wire.receive_faults_now ≡ wire.receive_faults) × (wire.send_faults_now ≡ wire.send_faults)

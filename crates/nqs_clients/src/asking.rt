@@ -15,6 +15,9 @@ use nqs_outside::{ReadStop, Sink, Source, Wire, read_whole, write_whole};
 use nqs_types::{HostId, LONGEST_SCRIPT, Tool};
 use std::alloc::Global;
 
+// The token of the one ask.
+const TOKEN: u64 = 5;
+
 // The line that refuses a longer script.
 const TOO_LONG: &[u8] = b"Bad word 0: script too long\n";
 
@@ -59,7 +62,7 @@ fn ask<W: Wire, K: Sink>(
     ensures { EndsAsking port host errand script.items (wired W.traffic W.receive_faults W.send_faults wire.old wire.new)
         (sunk K.taken K.faults K.stalls out.old out.new) result }
 {
-    match exchange(alloc, port, host, errand, script, wire) {
+    match exchange(alloc, TOKEN, port, host, errand, script, wire) {
         Ok(Some(answer)) => write_answer(answer.ok, answer.text.as_slice(), out),
         Ok(None) => NqsStatus::NoAnswer,
         Err(WaitStop::Fault) => NqsStatus::WireFault,

@@ -1,9 +1,11 @@
 //! What the words of a client ask for: the tool, the user, and the tool's own words.
 
-ghost use Rattle.std.specs.Prelude.{◌≡◌, ◌+◌, ◌∷◌, ◌++◌, [], true, IsTrue, OnOk, nat_le, length, map, string_bytes, IfOk};
+ghost use Rattle.std.specs.Prelude.{◌≡◌, ◌≤◌, ◌+◌, ◌∷◌, ◌++◌, [], true, IsTrue, OnOk, nat_le, length, map, string_bytes, IfOk};
 ghost use Rattle.std.specs.List.{sum_by, flat_map};
 ghost use Rattle.nqs_packets.specs.Letters.{words_length};
+ghost use Rattle.nqs_packets.specs.Parts.{is_word_count};
 ghost use Rattle.nqs_packets.specs.Values.{AreWords};
+ghost use Rattle.nqs_clients.specs.Asking.{asking};
 ghost use Rattle.nqs_clients.specs.Errand.{tool_of, joined, words_of, are_short, made_of, errand_of, ReadsErrand};
 
 use nqs_base::{Bytes, Items, Memory, Name};
@@ -35,6 +37,16 @@ impl Model for Errand {
 }
 
 impl Errand {
+    /// What one word asks of a tool whose words may be one.
+    pub fn of_word(alloc: Global, user: Name, tool: Tool, word: Bytes) -> Result<Errand, Memory>
+        requires one { is_word_count tool 1 ≡ true }
+        requires short { length word ≤ 4000 }
+        ensures { IfOk result (λ errand. errand ≡ asking user tool (word ∷ [])) }
+    {
+        let words = Items::of(alloc, word)?;
+        Ok(Errand { user, tool, words })
+    }
+
     /// The tool.
     pub(crate) fn tool(&self) -> Tool
         ensures { result ≡ self.now.tool }
@@ -127,7 +139,7 @@ fn words_of(alloc: Global, tool: Tool, own: Items<Bytes>) -> Result<Option<Items
     ensures { IfOk result (λ words. words ≡ words_of tool own) }
 {
     match tool {
-        Tool::Qsub | Tool::Qstat | Tool::Qdel => Ok(Some(own)),
+        Tool::Qsub | Tool::Qstat | Tool::Qdel | Tool::Rqstat | Tool::Rqdel => Ok(Some(own)),
         Tool::Qmgr => Ok(Some(one_line(alloc, own.as_slice())?)),
         Tool::Tick => {
             if own.as_slice().is_empty() {
@@ -155,6 +167,12 @@ fn tool_of(word: &[u8]) -> Option<Tool>
     }
     if word == b"tick".as_slice() {
         return Some(Tool::Tick);
+    }
+    if word == b"rqstat".as_slice() {
+        return Some(Tool::Rqstat);
+    }
+    if word == b"rqdel".as_slice() {
+        return Some(Tool::Rqdel);
     }
     None
 }

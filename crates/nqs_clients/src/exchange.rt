@@ -1,4 +1,4 @@
-//! The client asks a host, and waits for the answer.
+//! An ask of a host, and the wait for its answer.
 
 ghost use Rattle.std.specs.Prelude.{◌≡◌, ◌≤◌, length, [], IfOk, OnErr, OnOk};
 ghost use Rattle.nqs_types.specs.Scripts.{longest_script};
@@ -19,20 +19,19 @@ use nqs_packets::letters_of;
 use nqs_types::{Body, HostId, Message};
 use std::alloc::Global;
 
-// The token of the one ask.
-const TOKEN: u64 = 5;
-
 // The datagrams of what the host is asked.
 fn spelled_ask(
     alloc: Global,
+    token: u64,
     port: u16,
     host: HostId,
     errand: Errand,
     script: Vec<u8>,
 ) -> Result<Vec<Bytes>, Memory>
+    requires number { 1 ≤ token }
     requires host { IsHost host }
     requires short { length script.items ≤ longest_script }
-    ensures { IfOk result (λ letters. letters.items ≡ letters_of (at_home host (ask_of port errand script.items))) }
+    ensures { IfOk result (λ letters. letters.items ≡ letters_of (at_home host (ask_of token port errand script.items))) }
 {
     let (user, tool, words) = errand.into_parts();
     name_stands(&user);
@@ -41,7 +40,7 @@ fn spelled_ask(
         to: host,
         body: Body::Ask {
             port,
-            token: TOKEN,
+            token,
             user,
             tool,
             words,
@@ -68,8 +67,8 @@ fn send_all<W: Wire>(host: HostId, letters: &[Bytes], wire: &mut W) -> Result<()
 }
 
 // The answer of the host, if the message is it.
-fn answer_of(host: HostId, message: Option<Message>) -> Option<Answer>
-    ensures { result ≡ answer_of host message }
+fn answer_of(token: u64, host: HostId, message: Option<Message>) -> Option<Answer>
+    ensures { result ≡ answer_of token host message }
 {
     let Some(Message { from, to: _, body }) = message else {
         return None;
@@ -78,8 +77,12 @@ fn answer_of(host: HostId, message: Option<Message>) -> Option<Answer>
         return None;
     }
     match body {
-        Body::Answer { token, ok, text } => {
-            if token == TOKEN {
+        Body::Answer {
+            token: number,
+            ok,
+            text,
+        } => {
+            if number == token {
                 return Some(Answer { ok, text });
             }
             None
@@ -89,13 +92,18 @@ fn answer_of(host: HostId, message: Option<Message>) -> Option<Answer>
 }
 
 // Makes one receive, which may bring the answer.
-fn hear<W: Wire>(alloc: Global, host: HostId, wire: &mut W) -> Result<Option<Answer>, WaitStop>
-    ensures traffic { Receives [] (answer_in host) (W.traffic wire.old) (W.traffic wire.new) result }
+fn hear<W: Wire>(
+    alloc: Global,
+    token: u64,
+    host: HostId,
+    wire: &mut W,
+) -> Result<Option<Answer>, WaitStop>
+    ensures traffic { Receives [] (answer_in token host) (W.traffic wire.old) (W.traffic wire.new) result }
     ensures cause { StopsFor (W.receive_faults wire.old) (W.receive_faults wire.new) result }
     ensures send_faults { W.send_faults wire.new ≡ W.send_faults wire.old }
 {
     match receive_message(alloc, wire) {
-        Ok(message) => Ok(answer_of(host, message)),
+        Ok(message) => Ok(answer_of(token, host, message)),
         Err(stop) => Err(stop),
     }
 }
@@ -103,15 +111,16 @@ fn hear<W: Wire>(alloc: Global, host: HostId, wire: &mut W) -> Result<Option<Ans
 // Makes receives until the answer comes, at most ten.
 fn await_answer<W: Wire>(
     alloc: Global,
+    token: u64,
     host: HostId,
     wire: &mut W,
 ) -> Result<Option<Answer>, WaitStop>
-    ensures heard { Hears [] host (W.traffic wire.old) (W.traffic wire.new) result }
+    ensures heard { Hears token [] host (W.traffic wire.old) (W.traffic wire.new) result }
     ensures cause { StopsFor (W.receive_faults wire.old) (W.receive_faults wire.new) result }
     ensures send_faults { W.send_faults wire.new ≡ W.send_faults wire.old }
 {
     for _turn in 0..10u32 {
-        match hear(alloc, host, wire) {
+        match hear(alloc, token, host, wire) {
             Ok(heard) => {
                 if heard.is_some() {
                     return Ok(heard);
@@ -123,25 +132,29 @@ fn await_answer<W: Wire>(
     Ok(None)
 }
 
-/// Asks the host, and waits for its answer. Nothing is sent before all datagrams are spelled.
-pub(crate) fn exchange<W: Wire>(
+/// Asks the host under this token, from 1 on, whose answer comes to this port, and waits for it, which takes
+/// ten receives at most. An answer is the ask's where its sender and its token are. Nothing is sent
+/// before all datagrams are spelled.
+pub fn exchange<W: Wire>(
     alloc: Global,
+    token: u64,
     port: u16,
     host: HostId,
     errand: Errand,
     script: Vec<u8>,
     wire: &mut W,
 ) -> Result<Option<Answer>, WaitStop>
+    requires number { 1 ≤ token }
     requires host { IsHost host }
     requires short { length script.items ≤ longest_script }
-    ensures { Exchanges port host errand script.items (wired W.traffic W.receive_faults W.send_faults wire.old wire.new) result }
+    ensures { Exchanges token port host errand script.items (wired W.traffic W.receive_faults W.send_faults wire.old wire.new) result }
 {
-    let asked = match spelled_ask(alloc, port, host, errand, script) {
+    let asked = match spelled_ask(alloc, token, port, host, errand, script) {
         Ok(asked) => asked,
         Err(memory) => return Err(WaitStop::Memory(memory)),
     };
     match send_all(host, &asked, wire) {
-        Ok(()) => await_answer(alloc, host, wire),
+        Ok(()) => await_answer(alloc, token, host, wire),
         Err(_) => Err(WaitStop::Fault),
     }
 }

@@ -7,12 +7,13 @@ mod answer;
 mod asking;
 mod datagram;
 mod errand;
-mod exchange;
+pub mod exchange;
 mod shepherding;
 mod status;
 
+pub use answer::Answer;
 pub use asking::client;
-pub use datagram::Unread;
+pub use datagram::{Unread, WaitStop};
 pub use errand::{Errand, WordsStop, read_errand};
 pub use shepherding::{ShepherdEnd, shepherd};
 pub use status::NqsStatus;

@@ -30,6 +30,8 @@ fn body_kind(body: &Body) -> BodyKind
         Body::Ended { .. } => BodyKind::Ended,
         Body::EndedAck { .. } => BodyKind::EndedAck,
         Body::Piece { .. } => BodyKind::Piece,
+        Body::RemoteAsk { .. } => BodyKind::RemoteAsk,
+        Body::RemoteAnswer { .. } => BodyKind::RemoteAnswer,
     }
 }
 

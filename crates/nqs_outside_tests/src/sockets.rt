@@ -1,9 +1,10 @@
-//! The socket as a wire: whom a client hears, what it does where nobody is, and what a daemon's
-//! notes of who sent.
+//! The socket as a wire: whom a client hears, what it does where nobody is, what a daemon's notes of
+//! who sent, and where it answers.
 
 use crate::real::{HOST, site_of_alpha};
 use nqs_outside::{Address, Received, Wire};
-use nqs_real::{LastSender, UdpWire};
+use nqs_real::{LastSender, SiteHost, UdpWire, read_site};
+use nqs_types::HostId;
 use std::net::{Ipv4Addr, SocketAddr, SocketAddrV4};
 use std::rt::HostRuntime;
 use std::test::Fail;
@@ -88,6 +89,68 @@ fn noted_sender(rt: &HostRuntime) -> Result<[bool; 4], Fail> {
 #[test]
 fn a_daemons_sender_is_noted(rt: HostRuntime) -> Result<(), Fail> {
     assert_eq!(rt; noted_sender(&rt)?, [true; 4]);
+    Ok(())
+}
+
+// A site of two hosts, at two addresses of this machine.
+fn site_of_two(rt: &HostRuntime) -> Result<Vec<SiteHost>, Fail> {
+    let port = UdpWire::of_client(*rt, &[], 1)?.1;
+    let text = format!(in rt.alloc(); "alpha 127.0.0.1 {port}\nbeta 127.0.0.2 {port}\n")?;
+    Ok(read_site(rt.alloc(), text.as_bytes())?)
+}
+
+// The beginning of an ask of a client at this port.
+fn ask_of(port: u16) -> [u8; 6] {
+    let [high, low] = port.to_be_bytes();
+    [2, 10, 0, 0, high, low]
+}
+
+// Who asks from the second host's address: before the ask is believed, and behind it.
+fn at_another_address(rt: &HostRuntime) -> Result<[bool; 7], Fail> {
+    let site = site_of_two(rt)?;
+    let mut daemon = UdpWire::of_daemon(*rt, &site, HOST, 200, LastSender::unnoted())?;
+    let (mut asker, port) = UdpWire::of_asker(*rt, &site, HostId(1), 200)?;
+    let mut buf = vec![in rt.alloc(); 0u8; 49_185]?;
+    let asks = asker.send(Address::Host(HOST), &ask_of(port)) == Ok(());
+    let comes = daemon.receive(&mut buf) == Ok(Received::Datagram(6));
+    let early = daemon.send(Address::Client(port), b"early") == Ok(());
+    let is_quiet = asker.receive(&mut buf) == Ok(Received::Quiet);
+    daemon.believe();
+    let late = daemon.send(Address::Client(port), b"answer") == Ok(());
+    let hears = asker.receive(&mut buf) == Ok(Received::Datagram(6));
+    let is_answer = buf.starts_with(b"answer");
+    Ok([asks, comes, early, is_quiet, late, hears, is_answer])
+}
+
+#[test]
+fn an_asker_is_answered_where_it_is(rt: HostRuntime) -> Result<(), Fail> {
+    assert_eq!(rt; at_another_address(&rt)?, [true; 7]);
+    Ok(())
+}
+
+// A stranger finds the socket of an asker, as if it were a host's of a site of his own.
+fn asker_beside_a_stranger(rt: &HostRuntime) -> Result<[bool; 5], Fail> {
+    let site = site_of_two(rt)?;
+    let mut daemon = UdpWire::of_daemon(*rt, &site, HOST, 200, LastSender::unnoted())?;
+    let (mut asker, port) = UdpWire::of_asker(*rt, &site, HostId(1), 200)?;
+    let text = format!(in rt.alloc(); "own 127.0.0.2 {port}\n")?;
+    let own = read_site(rt.alloc(), text.as_bytes())?;
+    let (mut stranger, _) = UdpWire::of_client(*rt, &own, 200)?;
+    let mut buf = vec![in rt.alloc(); 0u8; 49_185]?;
+    let first = stranger.send(Address::Host(HOST), b"a stranger") == Ok(());
+    let is_quiet = asker.receive(&mut buf) == Ok(Received::Quiet);
+    let asks = asker.send(Address::Host(HOST), &ask_of(port)) == Ok(());
+    let comes = daemon.receive(&mut buf) == Ok(Received::Datagram(6));
+    daemon.believe();
+    let _ = stranger.send(Address::Host(HOST), b"a stranger");
+    let _ = daemon.send(Address::Client(port), b"answer");
+    let hears = asker.receive(&mut buf) == Ok(Received::Datagram(6));
+    Ok([first, is_quiet, asks, comes, hears])
+}
+
+#[test]
+fn an_asker_hears_daemons_alone(rt: HostRuntime) -> Result<(), Fail> {
+    assert_eq!(rt; asker_beside_a_stranger(&rt)?, [true; 5]);
     Ok(())
 }
 

@@ -8,7 +8,7 @@ use Rattle.std.proofs.lemmas.List.Sums.{sum_by-cons}
 use Rattle.nqs_types.specs.Scripts.{longest_script}
 use Rattle.nqs_types.specs.declared.message.Body.{Body}
 use Rattle.nqs_types.specs.declared.message.Body.TheVariants.{Offer, Ready, Refused, Commit, Done, Inquire, Abort, Stage, Staged, Ask, Answer, Ended, EndedAck}
-use Rattle.nqs_types.specs.declared.message.Body.TheVariants.{Piece as PieceBody}
+use Rattle.nqs_types.specs.declared.message.Body.TheVariants.{Piece as PieceBody, RemoteAsk, RemoteAnswer}
 use Rattle.nqs_types.specs.declared.message.Message.{Message}
 use Rattle.nqs_codec.specs.Fields.{u16_field, u32_field, bytes_field}
 use Rattle.nqs_records.proofs.ShortFields.{length-u8, length-u16, length-u32, length-u64, length-bool, length-id, name_short, path_short, carried_short}
@@ -16,7 +16,7 @@ use Rattle.nqs_packets.specs.Parts.{is_piece_length}
 use Rattle.nqs_packets.specs.Spelling.{tool_number, words_field, kind_of, body_field, spelling}
 use Rattle.nqs_packets.specs.Values.{IsShort, IsBody}
 use Rattle.nqs_packets.specs.Letters.{words_length, has_short_words, goes_in_pieces, fits_datagram, head_of, piece_letter, letters_of, EachLetterFits}
-use Rattle.nqs_packets.specs.Letters.{WhatIsShortMayGo}
+use Rattle.nqs_packets.specs.Letters.{WhatIsShortMayGo, IsRemote, WhatIsRemoteMayGo}
 use Rattle.nqs_packets.specs.Messages.{in_datagram}
 use Rattle.nqs_pieces.specs.Pieces.{bytes_of, piece_count, piece_of, pieces_of}
 use Rattle.nqs_pieces.specs.declared.piece.Piece.{Piece}
@@ -125,10 +125,40 @@ body_long (PieceBody kind port number index count bytes) is few =
       bytes_long bytes,
       short,
     )))
+body_long (RemoteAsk number user tool words) is few =
+    let name = name_short user is.1 in
+    let short = leb-true (words_length words) 1000 is.3 in
+    one (RemoteAsk number user tool words) _
+    (simp length-append (omega (arith, length-u64 number, name, length-u8 (tool_number tool), words_long words, short)))
+body_long (RemoteAnswer number user tool words ok text) is few =
+    let name = name_short user is.1 in
+    let short = leb-true (words_length words) 1000 is.3 in
+    let said = leb-true (length text) 48006 few in
+    one (RemoteAnswer number user tool words ok text) _ (simp length-append (omega (
+      arith,
+      length-u64 number,
+      name,
+      length-u8 (tool_number tool),
+      words_long words,
+      short,
+      length-bool ok,
+      bytes_long text,
+      said,
+    )))
 
 message_long : (m : Message) → length (spelling m) ≡ 4 + length (body_field m.body)
 unfolding spelling
 message_long m = simp length-append (omega (arith, length-u8 2, length-u8 (kind_of m.body), length-u8 m.from.0, length-u8 m.to.0))
+
+pub what_is_remote_may_go : WhatIsRemoteMayGo
+what_is_remote_may_go m remote from to = let is = by m.body remote in ((from, to, is.0), is.1)
+  where
+    by : (b : Body) → IsRemote b → IsBody b × IsTrue (has_short_words b)
+    by (RemoteAsk number user tool words) is = (is, refl)
+    by (RemoteAnswer number user tool words ok text) is =
+        let short = leb-true (length text) 48006 is.4 in
+        ((is.0, is.1, is.2, is.3, tt, omega (arith, short)), is.4)
+    by b is = absurd is
 
 pub what_is_short_may_go : WhatIsShortMayGo
 what_is_short_may_go m may few =

@@ -1,5 +1,6 @@
 pub mod Joined
 pub mod PartLaws
+pub mod RemoteLaws
 pub mod BodyLaws
 pub mod MessageLaws
 pub mod Spelled
@@ -12,3 +13,4 @@ pub mod Fields
 pub mod Bodies
 pub mod FirstFaults
 pub mod NoMemory
+pub mod RemoteWords

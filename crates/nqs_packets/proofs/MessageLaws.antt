@@ -5,7 +5,7 @@ use Rattle.nqs_base.proofs.Readings.{given, bound, bind, passed}
 use Rattle.nqs_base.proofs.Plain.{rest_behind}
 use Rattle.nqs_types.specs.declared.message.Body.{Body}
 use Rattle.nqs_types.specs.declared.message.Body.TheVariants.{Offer, Ready, Refused, Commit, Done, Inquire, Abort, Stage, Staged, Ask, Answer, Ended, EndedAck}
-use Rattle.nqs_types.specs.declared.message.Body.TheVariants.{Piece}
+use Rattle.nqs_types.specs.declared.message.Body.TheVariants.{Piece, RemoteAsk, RemoteAnswer}
 use Rattle.nqs_types.specs.declared.message.Message.{Message}
 use Rattle.nqs_codec.specs.Fields.{u8_field}
 use Rattle.nqs_codec.specs.Takes.{Stands}
@@ -80,6 +80,8 @@ kind_small (Answer token good text) = (omega arith, refl)
 kind_small (Ended port id start status output error) = (omega arith, refl)
 kind_small (EndedAck id start) = (omega arith, refl)
 kind_small (Piece kind port number index count bytes) = (omega arith, refl)
+kind_small (RemoteAsk number user tool words) = (omega arith, refl)
+kind_small (RemoteAnswer number user tool words good text) = (omega arith, refl)
 
 kind_taken : (b : Body) (bytes rest : List ℕ) (place : ℕ) → AreBytes bytes → drop place bytes ≡ u8_field (kind_of b) ++ rest
     → kind_at bytes place ≡ Ok (kind_of b, place + length (u8_field (kind_of b)))

@@ -6,7 +6,7 @@ use Rattle.std.proofs.lemmas.Bool.{and_parts, ltb-false}
 use Rattle.std.proofs.lemmas.Bool.Decides.{nat_tests}
 use Rattle.nqs_base.proofs.Readings.{bound, bind, passed, faultless}
 use Rattle.nqs_types.specs.declared.message.Tool.{Tool}
-use Rattle.nqs_types.specs.declared.message.Tool.TheVariants.{Qsub, Qstat, Qdel, Qmgr, Tick}
+use Rattle.nqs_types.specs.declared.message.Tool.TheVariants.{Qsub, Qstat, Qdel, Qmgr, Tick, Rqstat, Rqdel}
 use Rattle.nqs_rules.specs.Sane.{is_offer_refusal}
 use Rattle.nqs_codec.specs.Fields.{u8_field, u16_field, u32_field, u64_field, bytes_field}
 use Rattle.nqs_codec.specs.Takes.{IsLong}
@@ -66,7 +66,7 @@ run_read count = record {
 }
 
 -- bytes behind their length, which passes a test
-bytes_law : (test : ℕ → Bool) → IsRead (λ (l : List ℕ). IsTrue (test (length l)) × IsLong l) bytes_field (bytes_at test)
+pub bytes_law : (test : ℕ → Bool) → IsRead (λ (l : List ℕ). IsTrue (test (length l)) × IsLong l) bytes_field (bytes_at test)
 unfolding bytes_at bytes_field
 bytes_law test =
     mapped_where (λ (l : List ℕ). IsTrue (test (length l)) × IsLong l) bytes_field (λ v. v.1) (λ l. (length l, l)) (λ l. refl)
@@ -97,24 +97,28 @@ long_law = same_read (λ l is. is.1) (λ l is. (refl, is)) (bytes_law is_any)
 
 -- ---- commands of clients
 
-tool_back : (n : ℕ) → 1 ≤ n → n ≤ 5 → tool_number (tool_of n) ≡ n
+pub tool_back : (n : ℕ) → 1 ≤ n → n ≤ 7 → tool_number (tool_of n) ≡ n
 tool_back zero some few = absurd (omega (arith, some))
 tool_back (suc zero) some few = refl
 tool_back (suc (suc zero)) some few = refl
 tool_back (suc (suc (suc zero))) some few = refl
 tool_back (suc (suc (suc (suc zero)))) some few = refl
 tool_back (suc (suc (suc (suc (suc zero))))) some few = refl
-tool_back (suc (suc (suc (suc (suc (suc n)))))) some few = absurd (omega (arith, few))
+tool_back (suc (suc (suc (suc (suc (suc zero)))))) some few = refl
+tool_back (suc (suc (suc (suc (suc (suc (suc zero))))))) some few = refl
+tool_back (suc (suc (suc (suc (suc (suc (suc (suc n)))))))) some few = absurd (omega (arith, few))
 
-tool_range : (n : ℕ) → IsTrue (is_tool n) → (1 ≤ n) × (n ≤ 5)
-tool_range n is = let p = and_parts (nat_le 1 n) (nat_le n 5) is in (grind (arith, nat_tests), grind (arith, nat_tests))
+tool_range : (n : ℕ) → IsTrue (is_tool n) → (1 ≤ n) × (n ≤ 7)
+tool_range n is = let p = and_parts (nat_le 1 n) (nat_le n 7) is in (grind (arith, nat_tests), grind (arith, nat_tests))
 
-again : (t : Tool) → tool_of (tool_number t) ≡ t
+pub again : (t : Tool) → tool_of (tool_number t) ≡ t
 again Qsub = refl
 again Qstat = refl
 again Qdel = refl
 again Qmgr = refl
 again Tick = refl
+again Rqstat = refl
+again Rqdel = refl
 
 number_fits : (t : Tool) → IsTrue (is_tool (tool_number t))
 number_fits Qsub = refl
@@ -122,6 +126,8 @@ number_fits Qstat = refl
 number_fits Qdel = refl
 number_fits Qmgr = refl
 number_fits Tick = refl
+number_fits Rqstat = refl
+number_fits Rqdel = refl
 
 tool_small : (n : ℕ) → IsTrue (is_tool n) → n < 2 ^ 8
 tool_small n is = let p = tool_range n is in omega (arith, p.1)

@@ -8,7 +8,7 @@ use Rattle.nqs_types.specs.declared.request.Job.{Job}
 use Rattle.nqs_types.specs.declared.request.Carried.{Carried}
 use Rattle.nqs_types.specs.declared.message.Body.{Body}
 use Rattle.nqs_types.specs.declared.message.Body.TheVariants.{Offer, Ready, Refused, Commit, Done, Inquire, Abort, Stage, Staged, Ask, Answer, Ended, EndedAck}
-use Rattle.nqs_types.specs.declared.message.Body.TheVariants.{Piece}
+use Rattle.nqs_types.specs.declared.message.Body.TheVariants.{Piece, RemoteAsk, RemoteAnswer}
 use Rattle.nqs_rules.specs.Sane.{is_of_site, is_offer_refusal, is_sane_low, is_sane_id, is_sane_job, is_sane_carried, is_short_script, is_short_file}
 use Rattle.nqs_rules.specs.Sane.{is_sane_body}
 use Rattle.nqs_records.specs.Values.{IsJob, IsCarried, IsHost}
@@ -44,6 +44,8 @@ body_short (Answer token good text) ok = refl
 body_short (Ended port id start status output error) ok = and_from _ _ ok.4.0 ok.5.0
 body_short (EndedAck id start) ok = refl
 body_short (Piece kind port number index count bytes) ok = refl
+body_short (RemoteAsk number user tool words) ok = refl
+body_short (RemoteAnswer number user tool words good text) ok = refl
 
 pub what_is_read_is_short : WhatIsReadIsShort
 what_is_read_is_short bytes m fits is = body_short m.body (is_spelled bytes m fits is).1.2
@@ -88,6 +90,8 @@ body_is (Answer token good text) said sane = absurd said
 body_is (Ended port id start status output error) said sane = absurd said
 body_is (EndedAck id start) said sane = absurd said
 body_is (Piece kind port number index count bytes) said sane = absurd said
+body_is (RemoteAsk number user tool words) said sane = absurd said
+body_is (RemoteAnswer number user tool words good text) said sane = absurd said
 
 pub what_is_sane_may_be_sent : WhatIsSaneMaySend
 what_is_sane_may_be_sent m said to sane =

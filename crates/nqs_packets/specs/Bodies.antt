@@ -3,14 +3,14 @@ use Rattle.std.specs.Prelude.{List, [], ◌∷◌, Err}
 use Rattle.nqs_types.specs.Scripts.{longest_script}
 use Rattle.nqs_types.specs.declared.message.Body.{Body}
 use Rattle.nqs_types.specs.declared.message.Body.TheVariants.{Offer, Ready, Refused, Commit, Done, Inquire, Abort, Stage, Staged, Ask, Answer, Ended, EndedAck}
-use Rattle.nqs_types.specs.declared.message.Body.TheVariants.{Piece}
+use Rattle.nqs_types.specs.declared.message.Body.TheVariants.{Piece, RemoteAsk, RemoteAnswer}
 use Rattle.nqs_records.specs.declared.fault.RecordFault.TheVariants.{Kind}
 use Rattle.nqs_records.specs.Values.{is_at_most}
 use Rattle.nqs_records.specs.Reading.{Reading, mapped, both, within}
 use Rattle.nqs_records.specs.Fields.{u8_at, u16_at, u64_at, bool_at, name_at, path_at}
 use Rattle.nqs_records.specs.Parts.{id_at, carried_at, low_at}
 use Rattle.nqs_packets.specs.Parts.{is_any, number_at, cause_at, bytes_at, tool_at, words_at}
-use Rattle.nqs_packets.specs.Parts.{is_piece_kind, is_piece_port, is_piece_count, is_piece_length}
+use Rattle.nqs_packets.specs.Parts.{is_piece_kind, is_piece_port, is_piece_count, is_piece_length, remote_tool_at, remote_words_at}
 
 -- an offer of a request: the handover's number and its low, the queue that it is for, what is
 -- carried, and its script
@@ -81,11 +81,23 @@ piece_at =
     (both (within is_piece_kind u8_at) λ kind. both (within (is_piece_port kind) u16_at) λ _. both number_at λ _. both u8_at λ index.
     both (within (is_piece_count index) u8_at) λ count. bytes_at (is_piece_length index count))
 
+-- what a host asks of another for its user: the ask's number, the user, the tool and its words
+unfoldable pub remote_ask_at : Reading Body
+remote_ask_at =
+    mapped (λ v. RemoteAsk v.0 v.1.0 v.1.1.0 v.1.1.1)
+    (both number_at λ _. both name_at λ _. both remote_tool_at λ _. remote_words_at)
+
+-- the answer to it: what was asked, whether that was done, and a text
+unfoldable pub remote_answer_at : Reading Body
+remote_answer_at =
+    mapped (λ v. RemoteAnswer v.0 v.1.0 v.1.1.0 v.1.1.1.0 v.1.1.1.1.0 v.1.1.1.1.1)
+    (both number_at λ _. both name_at λ _. both remote_tool_at λ _. both remote_words_at λ _. both bool_at λ _. bytes_at is_any)
+
 -- the kinds, in the order of their numbers
 unfoldable pub bodies : List (Reading Body)
 bodies =
     offer_at ∷ ready_at ∷ refused_at ∷ commit_at ∷ done_at ∷ inquire_at ∷ abort_at ∷ stage_at ∷ staged_at
-    ∷ ask_at ∷ answer_at ∷ ended_at ∷ ended_ack_at ∷ piece_at ∷ []
+    ∷ ask_at ∷ answer_at ∷ ended_at ∷ ended_ack_at ∷ piece_at ∷ remote_ask_at ∷ remote_answer_at ∷ []
 
 -- there is no such kind, which is found at the second byte
 abbrev pub no_body : Reading Body

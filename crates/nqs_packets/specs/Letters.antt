@@ -1,13 +1,16 @@
 -- The datagrams in which a message goes out: one, or its pieces' where it is longer than one.
-use Rattle.std.specs.Prelude.{◌≡◌, ℕ, ◌+◌, ◌<◌, ◌≤◌, Bool, true, false, ◌&&◌, nat_le, IsTrue, if◌then◌else◌, List, [], ◌∷◌, length, map, All, Ok}
-use Rattle.std.specs.List.{list_all, sum_by}
+use Rattle.std.specs.Prelude.{◌≡◌, ℕ, ◌<◌, ◌≤◌, Bool, true, false, ◌&&◌, nat_le, IsTrue, if◌then◌else◌, List, [], ◌∷◌, length, map, All, Ok}
+use Rattle.std.specs.List.{list_all}
+use Rattle.nqs_base.specs.Name.{IsName}
 use Rattle.nqs_types.specs.declared.message.Body.{Body}
-use Rattle.nqs_types.specs.declared.message.Body.TheVariants.{Offer, Ask, Answer}
+use Rattle.nqs_types.specs.declared.message.Body.TheVariants.{Offer, Ask, Answer, RemoteAsk, RemoteAnswer}
 use Rattle.nqs_types.specs.declared.message.Message.{Message}
 use Rattle.nqs_pieces.specs.Pieces.{pieces_of}
 use Rattle.nqs_pieces.specs.declared.piece.Piece.{Piece}
+use Rattle.nqs_records.specs.Values.{IsHost}
+pub use Rattle.nqs_packets.specs.Parts.{words_length}
 use Rattle.nqs_packets.specs.Spelling.{kind_of, spelling}
-use Rattle.nqs_packets.specs.Values.{MaySend}
+use Rattle.nqs_packets.specs.Values.{IsNumber, IsRemoteTool, AreRemoteWords, MaySend}
 use Rattle.nqs_packets.specs.Messages.{in_datagram}
 use Rattle.nqs_packets.specs.Reading.{message_of}
 
@@ -54,19 +57,32 @@ pub record MayGo (message : Message) : Type 0 where
 abbrev pub EachLetterFits : Type 0
 EachLetterFits = (message : Message) → list_all fits_datagram (letters_of message) ≡ true
 
--- how long the words of a command are, each behind the 4 bytes of its length
-abbrev pub words_length : List (List ℕ) → ℕ
-words_length words = sum_by (λ word. length word + 4) words
+-- as many bytes of text as an answer has
+abbrev pub is_short_text : List ℕ → Bool
+is_short_text text = nat_le (length text) 48006
 
 -- the text of an answer, and the words of a client, as short as hosts and clients make them
 abbrev pub has_short_words : Body → Bool
 has_short_words (Ask port token user tool words script) = nat_le 1 token && nat_le (words_length words) 4004
-has_short_words (Answer token ok text) = nat_le (length text) 48006
+has_short_words (Answer token ok text) = is_short_text text
+has_short_words (RemoteAnswer number user tool words ok text) = is_short_text text
 has_short_words _ = true
 
 -- a message that may be sent may go out where its words are short
 abbrev pub WhatIsShortMayGo : Type 0
 WhatIsShortMayGo = (message : Message) → MaySend message → IsTrue (has_short_words message.body) → MayGo message
+
+-- what a host asks of another for its user, and the answer to it, as hosts make them
+abbrev pub IsRemote : Body → Type 0
+IsRemote (RemoteAsk number user tool words) = IsNumber number × IsName user × IsRemoteTool tool × AreRemoteWords words
+IsRemote (RemoteAnswer number user tool words ok text) =
+    IsNumber number × IsName user × IsRemoteTool tool × AreRemoteWords words × IsTrue (is_short_text text)
+IsRemote _ = ⊥
+
+-- it may be sent between two hosts, and may go out
+abbrev pub WhatIsRemoteMayGo : Type 0
+WhatIsRemoteMayGo =
+    (message : Message) → IsRemote message.body → IsHost message.from → IsHost message.to → MaySend message × IsTrue (has_short_words message.body)
 
 -- the pieces in which a message goes out are read back, each from its datagram
 abbrev pub PiecesAreReadBack : Type 0

@@ -4,7 +4,7 @@ use Rattle.nqs_base.specs.Name.{IsName}
 use Rattle.nqs_types.specs.declared.request.Job.{Job}
 use Rattle.nqs_types.specs.declared.message.Body.{Body}
 use Rattle.nqs_types.specs.declared.message.Body.TheVariants.{Offer, Ready, Refused, Commit, Done, Inquire, Abort, Stage, Staged, Ask, Answer, Ended, EndedAck}
-use Rattle.nqs_types.specs.declared.message.Body.TheVariants.{Piece}
+use Rattle.nqs_types.specs.declared.message.Body.TheVariants.{Piece, RemoteAsk, RemoteAnswer}
 use Rattle.nqs_types.specs.declared.message.Message.{Message}
 use Rattle.nqs_rules.specs.Sane.{is_of_site, is_short_script, is_short_output, is_sane_message}
 use Rattle.nqs_records.specs.Changes.{AreBytes}
@@ -75,6 +75,8 @@ IsSaid (Answer token ok text) = ⊥
 IsSaid (Ended port id start status out err) = ⊥
 IsSaid (EndedAck id start) = ⊥
 IsSaid (Piece kind port number index count bytes) = ⊥
+IsSaid (RemoteAsk number user tool words) = ⊥
+IsSaid (RemoteAnswer number user tool words ok text) = ⊥
 
 -- what a host says may be sent where the rules call it sane
 abbrev pub WhatIsSaneMaySend : Type 0

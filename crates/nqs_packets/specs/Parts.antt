@@ -1,7 +1,9 @@
 -- Readings of what datagrams have beside the fields of records.
-use Rattle.std.specs.Prelude.{◌≡◌, ℕ, ◌+◌, Bool, true, ◌&&◌, ◌||◌, ◌==◌, nat_le, nat_lt, List, [], ◌∷◌, length, take, drop, if◌then◌else◌, Ok, Err}
+use Rattle.std.specs.Prelude.{◌≡◌, ℕ, zero, suc, ◌+◌, ◌-◌, Bool, true, ◌&&◌, ◌||◌, ◌==◌, nat_le, nat_lt, List, [], ◌∷◌, length, take, drop}
+use Rattle.std.specs.Prelude.{if◌then◌else◌, Ok, Err}
+use Rattle.std.specs.List.{sum_by}
 use Rattle.nqs_types.specs.declared.message.Tool.{Tool}
-use Rattle.nqs_types.specs.declared.message.Tool.TheVariants.{Qsub, Qstat, Qdel, Qmgr, Tick}
+use Rattle.nqs_types.specs.declared.message.Tool.TheVariants.{Qsub, Qstat, Qdel, Qmgr, Tick, Rqstat, Rqdel}
 use Rattle.nqs_rules.specs.Sane.{is_offer_refusal}
 use Rattle.nqs_records.specs.declared.fault.RecordFault.TheVariants.{Short}
 use Rattle.nqs_records.specs.Reading.{Read, Reading, mapped, both, within, counted, numbered, is_memory}
@@ -49,11 +51,11 @@ is_any n = true
 
 -- the tools that ask, in the order of their numbers
 abbrev pub tools : List Tool
-tools = Qsub ∷ Qstat ∷ Qdel ∷ Qmgr ∷ Tick ∷ []
+tools = Qsub ∷ Qstat ∷ Qdel ∷ Qmgr ∷ Tick ∷ Rqstat ∷ Rqdel ∷ []
 
 -- whether a tool has this number
 abbrev pub is_tool : ℕ → Bool
-is_tool n = nat_le 1 n && nat_le n 5
+is_tool n = nat_le 1 n && nat_le n 7
 
 -- the tool of this number
 abbrev pub tool_of : ℕ → Tool
@@ -70,10 +72,44 @@ is_word_count Qstat n = true
 is_word_count Qdel n = true
 is_word_count Qmgr n = n == 1
 is_word_count Tick n = n == 0
+is_word_count Rqstat n = true
+is_word_count Rqdel n = true
 
 -- a tool's words, as many as it may have
 unfoldable pub words_at : Tool → Reading (List (List ℕ))
 words_at tool = counted (within (is_word_count tool) u16_at) (bytes_at is_any)
+
+-- how long words are, each behind the 4 bytes of its length
+abbrev pub words_length : List (List ℕ) → ℕ
+words_length words = sum_by (λ word. length word + 4) words
+
+-- ---- what hosts ask of each other for their users
+
+-- qstat and qdel alone
+abbrev pub is_remote_tool : ℕ → Bool
+is_remote_tool n = n == 2 || n == 3
+
+-- one of the two, by its number
+unfoldable pub remote_tool_at : Reading Tool
+remote_tool_at = mapped tool_of (within is_remote_tool u8_at)
+
+-- the words have together at most 1,000 bytes, those of their lengths among them
+abbrev pub are_remote_words : List (List ℕ) → Bool
+are_remote_words words = nat_le (words_length words) 1000
+
+-- a word of this length, and the length itself, have room
+abbrev pub has_room : ℕ → ℕ → Bool
+has_room room length = nat_le (length + 4) room
+
+-- so many words, each in the room that those before it leave
+unfoldable pub words_within : ℕ → ℕ → Reading (List (List ℕ))
+words_within zero room bytes place = Ok ([], place)
+words_within (suc n) room bytes place =
+    mapped (λ v. v.0 ∷ v.1) (both (bytes_at (has_room room)) λ word. words_within n (room - (length word + 4))) bytes place
+
+-- the words of another host's user: their count, and each in what is left of the 1,000 bytes
+unfoldable pub remote_words_at : Reading (List (List ℕ))
+remote_words_at = mapped (λ v. v.1) (both u16_at λ count. words_within count 1000)
 
 -- ---- pieces of long messages
 

@@ -26,7 +26,7 @@ or_packet_fault {A} (Err fault) = Err (as_packet_fault fault)
 
 -- whether a byte is the number of a kind
 abbrev pub is_kind : ℕ → Bool
-is_kind n = nat_le 1 n && nat_le n 14
+is_kind n = nat_le 1 n && nat_le n 16
 
 -- the number of a kind
 unfoldable pub kind_at : Reading ℕ

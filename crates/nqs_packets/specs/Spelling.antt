@@ -1,10 +1,10 @@
 -- The one spelling of each message.
 use Rattle.std.specs.Prelude.{ℕ, List, [], ◌∷◌, ◌++◌, length, flat_map}
 use Rattle.nqs_types.specs.declared.message.Tool.{Tool}
-use Rattle.nqs_types.specs.declared.message.Tool.TheVariants.{Qsub, Qstat, Qdel, Qmgr, Tick}
+use Rattle.nqs_types.specs.declared.message.Tool.TheVariants.{Qsub, Qstat, Qdel, Qmgr, Tick, Rqstat, Rqdel}
 use Rattle.nqs_types.specs.declared.message.Body.{Body}
 use Rattle.nqs_types.specs.declared.message.Body.TheVariants.{Offer, Ready, Refused, Commit, Done, Inquire, Abort, Stage, Staged, Ask, Answer, Ended, EndedAck}
-use Rattle.nqs_types.specs.declared.message.Body.TheVariants.{Piece}
+use Rattle.nqs_types.specs.declared.message.Body.TheVariants.{Piece, RemoteAsk, RemoteAnswer}
 use Rattle.nqs_types.specs.declared.message.Message.{Message}
 use Rattle.nqs_codec.specs.Fields.{u8_field, u16_field, u64_field, bytes_field, short_field, bool_field}
 use Rattle.nqs_records.specs.Spelling.{fields, id_field, carried_field}
@@ -16,6 +16,8 @@ tool_number Qstat = 2
 tool_number Qdel = 3
 tool_number Qmgr = 4
 tool_number Tick = 5
+tool_number Rqstat = 6
+tool_number Rqdel = 7
 
 -- two bytes that count the words, and each behind its length
 unfoldable pub words_field : List (List ℕ) → List ℕ
@@ -37,6 +39,8 @@ kind_of (Answer token ok text) = 11
 kind_of (Ended port id start status out err) = 12
 kind_of (EndedAck id start) = 13
 kind_of (Piece kind port number index count bytes) = 14
+kind_of (RemoteAsk number user tool words) = 15
+kind_of (RemoteAnswer number user tool words ok text) = 16
 
 -- the fields of a kind
 unfoldable pub body_field : Body → List ℕ
@@ -58,6 +62,10 @@ body_field (Ended port id start status out err) =
 body_field (EndedAck id start) = fields (id_field id ∷ u16_field start ∷ [])
 body_field (Piece kind port number index count bytes) =
     fields (u8_field kind ∷ u16_field port ∷ u64_field number ∷ u8_field index ∷ u8_field count ∷ bytes_field bytes ∷ [])
+body_field (RemoteAsk number user tool words) =
+    fields (u64_field number ∷ short_field user ∷ u8_field (tool_number tool) ∷ words_field words ∷ [])
+body_field (RemoteAnswer number user tool words ok text) =
+    fields (u64_field number ∷ short_field user ∷ u8_field (tool_number tool) ∷ words_field words ∷ bool_field ok ∷ bytes_field text ∷ [])
 
 -- the version, the kind, the sender, the receiver, and the fields of the kind
 unfoldable pub spelling : Message → List ℕ

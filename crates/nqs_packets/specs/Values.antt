@@ -5,13 +5,15 @@ use Rattle.nqs_base.specs.Path.{IsPath}
 use Rattle.nqs_types.specs.Scripts.{longest_script}
 use Rattle.nqs_types.specs.declared.message.Body.{Body}
 use Rattle.nqs_types.specs.declared.message.Body.TheVariants.{Offer, Ready, Refused, Commit, Done, Inquire, Abort, Stage, Staged, Ask, Answer, Ended, EndedAck}
-use Rattle.nqs_types.specs.declared.message.Body.TheVariants.{Piece}
+use Rattle.nqs_types.specs.declared.message.Body.TheVariants.{Piece, RemoteAsk, RemoteAnswer}
 use Rattle.nqs_types.specs.declared.message.Message.{Message}
 use Rattle.nqs_types.specs.declared.message.Tool.{Tool}
 use Rattle.nqs_rules.specs.Sane.{is_offer_refusal, is_sane_low}
 use Rattle.nqs_codec.specs.Takes.{IsLong}
 use Rattle.nqs_records.specs.Values.{is_at_most, IsU8, IsU16, IsU64, IsAny, IsList, IsHost, IsId, IsCarried}
 use Rattle.nqs_packets.specs.Parts.{is_number, is_word_count, is_piece_kind, is_piece_port, is_piece_count, is_piece_length}
+use Rattle.nqs_packets.specs.Parts.{is_remote_tool, are_remote_words}
+use Rattle.nqs_packets.specs.Spelling.{tool_number}
 
 -- the number of a handover or a stage
 abbrev pub IsNumber : ℕ → Type 0
@@ -45,6 +47,14 @@ IsPieceCount index count = IsTrue (is_piece_count index count) × IsU8 count
 abbrev pub IsPieceBytes : ℕ → ℕ → List ℕ → Type 0
 IsPieceBytes index count bytes = IsTrue (is_piece_length index count (length bytes)) × IsLong bytes
 
+-- a tool that a host may ask another host for
+abbrev pub IsRemoteTool : Tool → Type 0
+IsRemoteTool tool = IsTrue (is_remote_tool (tool_number tool))
+
+-- words that fit what one host asks of another
+abbrev pub AreRemoteWords : List (List ℕ) → Type 0
+AreRemoteWords words = IsTrue (are_remote_words words)
+
 -- the values of a kind are within their limits
 abbrev pub IsBody : Body → Type 0
 IsBody (Offer number low queue carried script) =
@@ -63,6 +73,9 @@ IsBody (Ended port id start status out err) = IsU16 port × IsId id × IsU16 sta
 IsBody (EndedAck id start) = IsId id × IsU16 start
 IsBody (Piece kind port number index count bytes) =
     IsPieceKind kind × IsPiecePort kind port × IsNumber number × IsU8 index × IsPieceCount index count × IsPieceBytes index count bytes
+IsBody (RemoteAsk number user tool words) = IsNumber number × IsName user × IsRemoteTool tool × AreRemoteWords words
+IsBody (RemoteAnswer number user tool words ok text) =
+    IsNumber number × IsName user × IsRemoteTool tool × AreRemoteWords words × IsAny ok × IsLong text
 
 -- a message between two hosts, whose values are within their limits
 abbrev pub MaySend : Message → Type 0

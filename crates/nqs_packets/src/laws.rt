@@ -2,7 +2,7 @@
 
 ghost use Rattle.nqs_packets.specs.Faults.{FirstFaults};
 ghost use Rattle.nqs_packets.specs.Messages.{ReadsTheSpelling, WhatIsReadIsSane, WhatIsReadIsShort, WhatIsSaneMaySend};
-ghost use Rattle.nqs_packets.specs.Letters.{EachLetterFits, PiecesAreReadBack, WhatIsShortMayGo};
+ghost use Rattle.nqs_packets.specs.Letters.{EachLetterFits, PiecesAreReadBack, WhatIsRemoteMayGo, WhatIsShortMayGo};
 ghost use Rattle.nqs_packets.specs.Messages.{WhatIsInFormMaySend, WhatIsReadIsInForm};
 
 use nqs_pieces::laws::pieces_are_in_form;
@@ -41,6 +41,12 @@ pub fn what_is_in_form_may_be_sent()
 /// A message that may be sent may go out, in one datagram or in pieces, where its words are short.
 pub fn what_is_short_may_go()
     ensures { WhatIsShortMayGo }
+{}
+
+/// What a host asks of another for its user, and the answer to it, may be sent and go out, where its
+/// numbers and names are those of the code's types.
+pub fn what_is_remote_may_go()
+    ensures { WhatIsRemoteMayGo }
 {}
 
 /// Each datagram in which a message goes out has at most 49,152 bytes.

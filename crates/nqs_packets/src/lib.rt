@@ -21,14 +21,16 @@ mod part;
 mod pieces;
 mod put;
 mod read;
+mod remote;
 mod write;
 
 pub use fault::PacketFault;
 pub use laws::{
     each_letter_fits, first_faults, pieces_are_read_back, reads_the_spelling,
     what_is_in_form_may_be_sent, what_is_read_is_in_form, what_is_read_is_sane,
-    what_is_read_is_short, what_is_sane_may_be_sent, what_is_short_may_go,
+    what_is_read_is_short, what_is_remote_may_go, what_is_sane_may_be_sent, what_is_short_may_go,
 };
 pub use letters::{letters_of, number_in};
 pub use read::read_message;
+pub use remote::are_remote_words;
 pub use write::{kind_of, write_message};

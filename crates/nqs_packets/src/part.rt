@@ -124,6 +124,8 @@ pub(crate) fn read_tool(bytes: &[u8], place: u64) -> Result<(Tool, u64), RecordF
         3 => Ok((Tool::Qdel, next)),
         4 => Ok((Tool::Qmgr, next)),
         5 => Ok((Tool::Tick, next)),
+        6 => Ok((Tool::Rqstat, next)),
+        7 => Ok((Tool::Rqdel, next)),
         _ => Err(RecordFault::BadField(place)),
     }
 }
@@ -132,7 +134,7 @@ fn may_have(tool: Tool, words: u16) -> bool
     ensures { result ≡ is_word_count tool words }
 {
     match tool {
-        Tool::Qsub | Tool::Qstat | Tool::Qdel => true,
+        Tool::Qsub | Tool::Qstat | Tool::Qdel | Tool::Rqstat | Tool::Rqdel => true,
         Tool::Qmgr => words == 1,
         Tool::Tick => words == 0,
     }

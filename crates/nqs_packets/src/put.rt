@@ -69,7 +69,7 @@ pub(crate) fn put_stage(
     put_bytes(bytes, out)
 }
 
-fn tool_number(tool: Tool) -> u8
+pub(crate) fn tool_number(tool: Tool) -> u8
     ensures { result ≡ tool_number tool }
 {
     match tool {
@@ -78,6 +78,8 @@ fn tool_number(tool: Tool) -> u8
         Tool::Qdel => 3,
         Tool::Qmgr => 4,
         Tool::Tick => 5,
+        Tool::Rqstat => 6,
+        Tool::Rqdel => 7,
     }
 }
 
@@ -92,7 +94,7 @@ impl Put<InDatagram> for Bytes {
 }
 
 #[tactic(auto, using(crate::proofs::Joined::joined), unfolding(crate::specs::Spelling::words_field))]
-fn put_words(words: &[Bytes], out: &mut Vec<u8>) -> Result<(), Memory>
+pub(crate) fn put_words(words: &[Bytes], out: &mut Vec<u8>) -> Result<(), Memory>
     requires all { AllByRecursion IsLong words.now }
     requires few { length words.now < 2 ^ 16 }
     ensures { Adds out.old.items (words_field words.now) result out.new.items }

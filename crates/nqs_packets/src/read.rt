@@ -13,6 +13,7 @@ use crate::kinds::{
 };
 use crate::part::InDatagram;
 use crate::pieces::read_piece;
+use crate::remote::{read_remote_answer, read_remote_ask};
 use nqs_records::{Read, RecordFault, read_alone, read_host, read_u8};
 use nqs_types::{Body, Message};
 use std::alloc::Global;
@@ -36,6 +37,8 @@ fn read_body(alloc: Global, kind: u8, bytes: &[u8], place: u64) -> Result<(Body,
         12 => read_ended(alloc, bytes, place),
         13 => read_ended_ack(bytes, place),
         14 => read_piece(alloc, bytes, place),
+        15 => read_remote_ask(alloc, bytes, place),
+        16 => read_remote_answer(alloc, bytes, place),
         _ => Err(RecordFault::Kind(1)),
     }
 }
@@ -45,7 +48,7 @@ fn read_kind(bytes: &[u8], place: u64) -> Result<(u8, u64), RecordFault>
     ensures { result ≡ kind_at bytes.now place }
 {
     let (kind, next) = read_u8(bytes, place)?;
-    if 1 <= kind && kind <= 14 {
+    if 1 <= kind && kind <= 16 {
         Ok((kind, next))
     } else {
         Err(RecordFault::Kind(place))

@@ -12,6 +12,7 @@ use crate::pieces::put_piece;
 use crate::put::{
     put_answer, put_ask, put_ended, put_ended_ack, put_number, put_offer, put_refused, put_stage,
 };
+use crate::remote::{put_remote_answer, put_remote_ask};
 use nqs_base::Memory;
 use nqs_codec::put_u8;
 use nqs_types::{Body, Message};
@@ -36,6 +37,8 @@ pub fn kind_of(body: &Body) -> u8
         Body::Ended { .. } => 12,
         Body::EndedAck { .. } => 13,
         Body::Piece { .. } => 14,
+        Body::RemoteAsk { .. } => 15,
+        Body::RemoteAnswer { .. } => 16,
     }
 }
 
@@ -111,6 +114,28 @@ fn put_body(body: &Body, out: &mut Vec<u8>) -> Result<(), Memory>
             *number,
             (*index, *count),
             bytes.as_slice(),
+            out,
+        ),
+        Body::RemoteAsk {
+            number,
+            user,
+            tool,
+            words,
+        } => put_remote_ask(*number, user, *tool, words.as_slice(), out),
+        Body::RemoteAnswer {
+            number,
+            user,
+            tool,
+            words,
+            ok,
+            text,
+        } => put_remote_answer(
+            *number,
+            user,
+            *tool,
+            words.as_slice(),
+            *ok,
+            text.as_slice(),
             out,
         ),
     }

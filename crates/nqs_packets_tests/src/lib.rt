@@ -7,4 +7,6 @@ mod packets;
 #[cfg(test)]
 mod pieces;
 #[cfg(test)]
+mod remote;
+#[cfg(test)]
 mod turned;

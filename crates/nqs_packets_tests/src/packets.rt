@@ -22,7 +22,7 @@ const ONLY_OFFER: &[u8] =
 const ASK: &[u8] = b"\x02\x0a\x00\x00\x00\x09\x00\x00\x00\x00\x00\x00\x00\x05\x03ann\x03\
 \x00\x02\x00\x00\x00\x02-k\x00\x00\x00\x077.alpha\x00\x00\x00\x00";
 
-pub(crate) static MESSAGES: [&[u8]; 14] = [
+pub(crate) static MESSAGES: [&[u8]; 16] = [
     OFFER,
     b"\x02\x02\x01\x00\xff\xff\xff\xff\xff\xff\xff\xff",
     b"\x02\x03\x01\x00\x00\x00\x00\x00\x00\x00\x00\x01\x21",
@@ -37,6 +37,18 @@ pub(crate) static MESSAGES: [&[u8]; 14] = [
     b"\x02\x0c\x00\x00\x00\x09\x00\x00\x00\x07\x00\x00\x01\x7f\x00\x00\x00\x00\x00\x00\x00\x03err",
     b"\x02\x0d\x00\x00\xff\xff\xff\xfe\x0f\xff\xff",
     b"\x02\x0e\x00\x01\x01\x00\x00\x00\x00\x00\x00\x00\x00\x00\x02\x01\x02\x00\x00\x00\x03end",
+    b"\x02\x0f\x00\x01\x00\x00\x00\x00\x00\x00\x00\x05\x03ann\x03\
+\x00\x02\x00\x00\x00\x02-k\x00\x00\x00\x077.alpha",
+    b"\x02\x10\x01\x00\x00\x00\x00\x00\x00\x00\x00\x05\x03ann\x02\
+\x00\x01\x00\x00\x00\x02-q\x01\x00\x00\x00\x03out",
+];
+
+// Asks of rqstat, of one word, and of rqdel, of none.
+static FAR_ASKS: [&[u8]; 2] = [
+    b"\x02\x0a\x00\x00\x00\x09\x00\x00\x00\x00\x00\x00\x00\x05\x03ann\x06\
+\x00\x01\x00\x00\x00\x04beta\x00\x00\x00\x00",
+    b"\x02\x0a\x00\x00\x00\x09\x00\x00\x00\x00\x00\x00\x00\x05\x03ann\x07\
+\x00\x00\x00\x00\x00\x00",
 ];
 
 // Whether the datagram is read, and written as these bytes.
@@ -55,6 +67,9 @@ fn reads_and_writes(rt: HostRuntime) {
         assert!(rt; is_written_again(rt.alloc(), bytes));
     }
     assert!(rt; is_written_again(rt.alloc(), ONLY_OFFER));
+    for bytes in &FAR_ASKS {
+        assert!(rt; is_written_again(rt.alloc(), bytes));
+    }
 }
 
 fn is_done(message: &Message) -> bool {
@@ -136,7 +151,7 @@ pub(crate) fn fault(alloc: Global, bytes: &[u8]) -> Option<PacketFault> {
 }
 
 // Bytes that are no datagram, and their first fault.
-static FAULTS: [(&[u8], PacketFault); 27] = [
+static FAULTS: [(&[u8], PacketFault); 36] = [
     (b"", PacketFault::Short(0)),
     (b"\x00", PacketFault::Version),
     (b"\x01", PacketFault::Version),
@@ -185,7 +200,9 @@ static FAULTS: [(&[u8], PacketFault); 27] = [
         PacketFault::BadField(3),
     ),
     (b"\x02\x00", PacketFault::Kind),
-    (b"\x02\x0f\x10\x10", PacketFault::Kind),
+    (b"\x02\x11\x10\x10", PacketFault::Kind),
+    (b"\x02\x10\x10\x10", PacketFault::BadField(2)),
+    (b"\x02\x0f\x10\x10", PacketFault::BadField(2)),
     (b"\x02\x0e\x10\x10", PacketFault::BadField(2)),
     (b"\x02\x05\x10\x10", PacketFault::BadField(2)),
     (
@@ -205,7 +222,7 @@ static FAULTS: [(&[u8], PacketFault); 27] = [
         PacketFault::Short(18),
     ),
     (
-        b"\x02\x0a\x00\x00\x00\x09\x00\x00\x00\x00\x00\x00\x00\x05\x01a\x06\x00\x00",
+        b"\x02\x0a\x00\x00\x00\x09\x00\x00\x00\x00\x00\x00\x00\x05\x01a\x08\x00\x00",
         PacketFault::BadField(16),
     ),
     (
@@ -219,6 +236,35 @@ static FAULTS: [(&[u8], PacketFault); 27] = [
     (
         b"\x02\x0c\x00\x00\x00\x09\x00\x00\x00\x07\x00\x00\x01\x7f\x00\x00\x40\x01",
         PacketFault::BadField(14),
+    ),
+    // What a host asks of another with the number 0, and of each tool but qstat and qdel.
+    (
+        b"\x02\x0f\x00\x01\x00\x00\x00\x00\x00\x00\x00\x00\x01a\x02\x00\x00",
+        PacketFault::BadField(4),
+    ),
+    (
+        b"\x02\x0f\x00\x01\x00\x00\x00\x00\x00\x00\x00\x01\x01a\x01\x00\x00",
+        PacketFault::BadField(14),
+    ),
+    (
+        b"\x02\x0f\x00\x01\x00\x00\x00\x00\x00\x00\x00\x01\x01a\x04\x00\x01",
+        PacketFault::BadField(14),
+    ),
+    (
+        b"\x02\x0f\x00\x01\x00\x00\x00\x00\x00\x00\x00\x01\x01a\x05\x00\x00",
+        PacketFault::BadField(14),
+    ),
+    (
+        b"\x02\x0f\x00\x01\x00\x00\x00\x00\x00\x00\x00\x01\x01a\x06\x00\x00",
+        PacketFault::BadField(14),
+    ),
+    (
+        b"\x02\x10\x00\x01\x00\x00\x00\x00\x00\x00\x00\x01\x01a\x07\x00\x00\x00",
+        PacketFault::BadField(14),
+    ),
+    (
+        b"\x02\x10\x00\x01\x00\x00\x00\x00\x00\x00\x00\x00\x01a\x03\x00\x00\x00",
+        PacketFault::BadField(4),
     ),
 ];
 

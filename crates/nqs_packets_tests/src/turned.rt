@@ -60,7 +60,7 @@ type Run = (usize, usize, Fault);
 /// For each of the datagrams the runs of bytes that give a fault where they are 0, 7f and ff. Each
 /// other byte may be so. In a name or a path each byte may be wrong by itself: no letter, digit or
 /// other sign that stands there is any of these three.
-static TURNED: [[&[Run]; 3]; 14] = [
+static TURNED: [[&[Run]; 3]; 16] = [
     // OFFER: the number at 4, its low at 12, the queue at 20, the request at 26 and 30, its name at
     // 31 and owner at 33, the priority at 37, rerun at 46, three values that may be missing from 47
     // on, two paths at 50 and 55, join at 60, starts at 61, lost at 63, hops at 65, the script at
@@ -275,6 +275,40 @@ static TURNED: [[&[Run]; 3]; 14] = [
             (20, 20, Is(Short(24))),
         ],
     ],
+    // REMOTEASK: the number at 4, the user at 12, the tool at 16, the count at 17, two words at 19
+    // and 25. Without words what follows is too much. The first word without bytes is followed by
+    // one of 2d6b0000 bytes, which is too long; the second one by nothing that may be there.
+    [
+        &[
+            (0, 0, Is(Version)),
+            (1, 1, Is(Kind)),
+            (11, 11, Is(BadField(4))),
+            (12, 15, Here),
+            (16, 16, Here),
+            (18, 18, Is(Trailing(19))),
+            (22, 22, Is(BadField(23))),
+            (28, 28, Is(Trailing(29))),
+        ],
+        REMOTE_ASK,
+        REMOTE_ASK,
+    ],
+    // REMOTEANSWER: the same up to one word at 19, whether it was done at 25, the text at 26. With
+    // no word the answer is no, and its text of 22d bytes begins at 24; with more than one word the
+    // second one is of 1000000 bytes or more.
+    [
+        &[
+            (0, 0, Is(Version)),
+            (1, 1, Is(Kind)),
+            (11, 11, Is(BadField(4))),
+            (12, 15, Here),
+            (16, 16, Here),
+            (18, 18, Is(Short(33))),
+            (22, 22, Is(BadField(23))),
+            (29, 29, Is(Trailing(30))),
+        ],
+        REMOTE_ANSWER,
+        REMOTE_ANSWER,
+    ],
 ];
 
 /// A number of which the last byte alone isn't 0.
@@ -314,6 +348,35 @@ const OUTPUTS: &[Run] = &[
     (17, 17, Is(Short(25))),
     (18, 20, Is(BadField(18))),
     (21, 21, Is(Short(25))),
+];
+
+/// A tool and a user that there isn't, words of which there are more, and some that have no room or
+/// are longer than what is there.
+const REMOTE_ASK: &[Run] = &[
+    (0, 0, Is(Version)),
+    (1, 1, Is(Kind)),
+    (2, 3, Here),
+    (12, 15, Here),
+    (16, 16, Here),
+    (17, 18, Is(Short(36))),
+    (19, 21, Is(BadField(19))),
+    (22, 22, Is(Short(36))),
+    (25, 27, Is(BadField(25))),
+    (28, 28, Is(Short(36))),
+];
+
+/// The same of an answer, whose text is longer than what is there.
+const REMOTE_ANSWER: &[Run] = &[
+    (0, 0, Is(Version)),
+    (1, 1, Is(Kind)),
+    (2, 3, Here),
+    (12, 15, Here),
+    (16, 16, Here),
+    (17, 18, Is(BadField(25))),
+    (19, 21, Is(BadField(19))),
+    (22, 22, Is(Short(33))),
+    (25, 25, Here),
+    (26, 29, Is(Short(33))),
 ];
 
 // The fault that is wanted where that byte is turned.

@@ -1,4 +1,5 @@
 pub mod Accounts
+pub mod Callers
 pub mod Ends
 pub mod Lost
 pub mod Marks
@@ -6,3 +7,4 @@ pub mod Missing
 pub mod Names
 pub mod Owners
 pub mod Shortages
+pub mod Wires

@@ -5,6 +5,7 @@
 #![tactic(auto)]
 
 mod account;
+mod callers;
 mod clock;
 mod counted;
 mod directory;

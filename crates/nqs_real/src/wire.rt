@@ -1,8 +1,10 @@
 //! A UDP socket as a wire.
 
-ghost use Rattle.std.specs.Prelude.{◌≡◌, None, IfOk, IfSome, length};
+ghost use Rattle.std.specs.Prelude.{◌≡◌, ◌<◌, None, Some, IfOk, IfSome, length};
 ghost use Rattle.nqs_outside.specs.Asked.{IsWithin};
+ghost use Rattle.nqs_real.specs.Wires.{IsPlace, IsAt, believed, named_port, number_at};
 
+use crate::callers::{Caller, Callers};
 use crate::counted::counted;
 use crate::sender::LastSender;
 use crate::site::SiteHost;
@@ -22,7 +24,12 @@ const SECOND: u64 = 1000;
 /// For how many bytes of datagrams that wait to be received a socket asks: 8 MB.
 const ROOM: i32 = 8 << 20;
 
-/// The kind of a datagram that is a piece of a longer message, at its second byte.
+/// The kinds of datagrams that name the port of a client or a shepherd, at their second byte: an ask,
+/// the end of a job, and a piece of a longer message.
+const ASK: u8 = 10;
+
+const ENDED: u8 = 12;
+
 const PIECE: u8 = 14;
 
 /// Where a piece has its index among the pieces of its message, from 0, and how many these are.
@@ -45,6 +52,8 @@ const CLOSE: u64 = 100;
 enum Heard {
     // From anywhere: a daemon's.
     All,
+    // From the daemons of the site: that of a client who asks several of them.
+    Daemons,
     // From the place of the first send, before there was one.
     Next,
     // From this place alone, the one to which it has sent last.
@@ -73,6 +82,10 @@ pub struct UdpWire {
     heard: Heard,
     sender: LastSender,
     site: Vec<SiteHost>,
+    // Who asked by the last datagram, if anybody did.
+    last: Option<Caller>,
+    // Who asked from an address of the site and was believed.
+    callers: Callers,
     wait: Duration,
     began: Option<Instant>,
     // The system granted less room than was asked for.
@@ -86,7 +99,9 @@ pub struct UdpWire {
     send_faults: u64,
 }
 
-fn at(address: Ipv4Addr, port: u16) -> SocketAddr {
+fn at(address: Ipv4Addr, port: u16) -> SocketAddr
+    ensures { IsPlace address.octets port result }
+{
     SocketAddr::V4(SocketAddrV4::new(address, port))
 }
 
@@ -119,6 +134,57 @@ fn no_such_host() -> io::Error {
     io::Error::from(ErrorKind::InvalidInput)
 }
 
+// Who is at a place, where it has an address of four numbers, as each of the site has.
+fn caller_at(place: SocketAddr) -> Option<Caller>
+    ensures { IfSome result (λ caller. IsPlace caller.address.octets caller.port place) }
+{
+    match place {
+        SocketAddr::V4(place) => Some(Caller {
+            port: place.port(),
+            address: *place.ip(),
+        }),
+        SocketAddr::V6(_) => None,
+    }
+}
+
+// The number at a place of a datagram.
+fn number_at(datagram: &[u8], place: usize) -> Option<u16>
+    requires { place < 16 }
+    ensures { result ≡ number_at place datagram.now }
+{
+    let high = *datagram.get(place)?;
+    let low = *datagram.get(place + 1)?;
+    Some(u16::from(high) * 256 + u16::from(low))
+}
+
+// The port that a datagram says to be its client's or its shepherd's.
+fn named_port(datagram: &[u8]) -> Option<u16>
+    ensures { result ≡ named_port datagram.now }
+{
+    let kind = *datagram.get(1)?;
+    if kind == PIECE {
+        return number_at(datagram, 5);
+    }
+    if kind == ASK || kind == ENDED {
+        return number_at(datagram, 4);
+    }
+    None
+}
+
+// Who asked by a datagram from this place. One that names another port than that from which it
+// comes, or none, says of nobody where he is.
+fn caller_of(place: SocketAddr, datagram: &[u8]) -> Option<Caller>
+    ensures place { IfSome result (λ caller. IsPlace caller.address.octets caller.port place) }
+    ensures named { IfSome result (λ caller. named_port datagram.now ≡ Some caller.port) }
+{
+    let port = named_port(datagram)?;
+    let caller = caller_at(place)?;
+    if caller.port == port {
+        return Some(caller);
+    }
+    None
+}
+
 impl UdpWire {
     /// The wire of a host's daemon, at the address and port of the site. The wait is in
     /// milliseconds, from 1 to 1,000. From where each datagram comes is noted there.
@@ -145,8 +211,38 @@ impl UdpWire {
     pub fn of_client(rt: HostRuntime, site: &[SiteHost], wait: u64) -> io::Result<(UdpWire, u16)>
         ensures { IfOk result (λ made. (made.0.receive_faults ≡ 0) × (made.0.send_faults ≡ 0)) }
     {
-        let own = at(Ipv4Addr::LOCALHOST, 0);
-        let wire = UdpWire::bind(rt, own, Heard::Next, site, wait, LastSender::unnoted())?;
+        UdpWire::at_free_port(rt, Ipv4Addr::LOCALHOST, Heard::Next, site, wait)
+    }
+
+    /// The wire of a client that asks several daemons of the site, at a free port of this host's
+    /// address, which is given too. The machine has to be this host's: else the call fails, as it
+    /// does where the site has no such host.
+    pub fn of_asker(
+        rt: HostRuntime,
+        site: &[SiteHost],
+        host: HostId,
+        wait: u64,
+    ) -> io::Result<(UdpWire, u16)>
+        ensures { IfOk result (λ made. (made.0.receive_faults ≡ 0) × (made.0.send_faults ≡ 0)) }
+    {
+        match site.get(host.0 as usize) {
+            Some(own) => UdpWire::at_free_port(rt, own.address, Heard::Daemons, site, wait),
+            None => Err(no_such_host()),
+        }
+    }
+
+    // A wire at a free port of this address, which is given too.
+    fn at_free_port(
+        rt: HostRuntime,
+        address: Ipv4Addr,
+        heard: Heard,
+        site: &[SiteHost],
+        wait: u64,
+    ) -> io::Result<(UdpWire, u16)>
+        ensures { IfOk result (λ made. (made.0.receive_faults ≡ 0) × (made.0.send_faults ≡ 0)) }
+    {
+        let own = at(address, 0);
+        let wire = UdpWire::bind(rt, own, heard, site, wait, LastSender::unnoted())?;
         let port = wire.socket.local_addr()?.port();
         Ok((wire, port))
     }
@@ -165,12 +261,15 @@ impl UdpWire {
         ask_for_room(&socket);
         let is_narrow = is_narrow(&socket);
         let site = site.to_vec(rt.alloc())?;
+        let callers = Callers::new(rt.alloc())?;
         Ok(UdpWire {
             rt,
             socket,
             heard,
             sender,
             site,
+            last: None,
+            callers,
             wait: Duration::from_millis(wait.clamp(1, SECOND)),
             began: None,
             is_narrow,
@@ -181,10 +280,26 @@ impl UdpWire {
         })
     }
 
-    // Where an address is. Clients and shepherds are at the machine's loopback address.
-    fn place_of(&self, to: Address) -> io::Result<SocketAddr> {
+    /// The datagram that the last receive gave is believed, where it names the port from which it
+    /// came as its client's: from an address of the site, what goes to that client then goes there,
+    /// and from the loopback address, there again. Any other changes nothing. Of 65 such ports that
+    /// of the oldest datagram is forgotten, and answered at the loopback address.
+    pub fn believe(&mut self)
+        ensures callers { self.new.callers ≡ believed self.old.last self.old.site.items self.old.callers }
+        ensures receive_faults { self.new.receive_faults ≡ self.old.receive_faults }
+        ensures send_faults { self.new.send_faults ≡ self.old.send_faults }
+    {
+        if let Some(caller) = self.last {
+            self.callers.hear(caller, &self.site);
+        }
+    }
+
+    // Where an address is.
+    fn place_of(&self, to: Address) -> io::Result<SocketAddr>
+        ensures { IfOk result (IsAt self.now.site.items self.now.callers to) }
+    {
         match to {
-            Address::Client(port) => Ok(at(Ipv4Addr::LOCALHOST, port)),
+            Address::Client(port) => Ok(at(self.callers.address_of(port), port)),
             Address::Host(host) => match self.site.get(host.0 as usize) {
                 Some(host) => Ok(at(host.address, host.port)),
                 None => Err(no_such_host()),
@@ -198,7 +313,7 @@ impl UdpWire {
         ensures send_faults { self.new.send_faults ≡ self.old.send_faults }
     {
         let is_met = match self.heard {
-            Heard::All => true,
+            Heard::All | Heard::Daemons => true,
             Heard::Next => false,
             Heard::One(met) => met == place,
         };
@@ -300,8 +415,21 @@ impl UdpWire {
         Received::Quiet
     }
 
-    // What the socket gives within this time. None: word that nobody took an earlier datagram, or
-    // nothing where a message has begun, so that what is left is looked at anew.
+    // Is what comes from this place taken? Where not all is, the system keeps back what comes from
+    // elsewhere than the place of a client's own daemon.
+    fn hears(&self, place: SocketAddr) -> bool {
+        match self.heard {
+            Heard::Daemons => self
+                .site
+                .iter()
+                .any(|host| at(host.address, host.port) == place),
+            _ => true,
+        }
+    }
+
+    // What the socket gives within this time. None: word that nobody took an earlier datagram, one
+    // that isn't taken, or nothing where a message has begun, so that what is left is looked at
+    // anew.
     fn look(&mut self, buf: &mut [u8], left: Duration) -> io::Result<Option<Received>>
         ensures within { IfOk result (λ r. IfSome r (λ r. IsWithin r (length buf.new))) }
         ensures same_length { length buf.new ≡ length buf.old }
@@ -310,9 +438,12 @@ impl UdpWire {
     {
         self.socket.set_read_timeout(Some(left))?;
         match self.socket.recv_from(buf) {
+            Ok((_, from)) if !self.hears(from) => Ok(None),
             Ok((count, from)) => {
                 self.sender.note(from);
-                self.note(buf.get(..count).unwrap_or_default())?;
+                let datagram = buf.get(..count).unwrap_or_default();
+                self.last = caller_of(from, datagram);
+                self.note(datagram)?;
                 Ok(Some(Received::Datagram(count)))
             }
             Err(e) if e.kind() == ErrorKind::ConnectionRefused => Ok(None),

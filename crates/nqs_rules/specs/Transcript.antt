@@ -133,6 +133,8 @@ kind_name kind.Answer = codes "ANSWER"
 kind_name kind.Ended = codes "ENDED"
 kind_name kind.EndedAck = codes "ENDEDACK"
 kind_name kind.Piece = codes "PIECE"
+kind_name kind.RemoteAsk = codes "REMOTEASK"
+kind_name kind.RemoteAnswer = codes "REMOTEANSWER"
 
 -- the name of a host
 abbrev pub host_text : List Text → HostId → Text

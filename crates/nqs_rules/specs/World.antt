@@ -312,6 +312,8 @@ body_kind (body.Answer _ _ _) = kind.Answer
 body_kind (body.Ended _ _ _ _ _ _) = kind.Ended
 body_kind (body.EndedAck _ _) = kind.EndedAck
 body_kind (body.Piece _ _ _ _ _ _) = kind.Piece
+body_kind (body.RemoteAsk _ _ _ _) = kind.RemoteAsk
+body_kind (body.RemoteAnswer _ _ _ _ _ _) = kind.RemoteAnswer
 
 -- the number of a datagram among hosts, and 0 for one of a client
 abbrev pub body_number : Body → ℕ

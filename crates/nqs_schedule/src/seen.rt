@@ -140,6 +140,8 @@ fn kind_name(kind: BodyKind) -> &'static [u8]
         BodyKind::Ended => b"ENDED",
         BodyKind::EndedAck => b"ENDEDACK",
         BodyKind::Piece => b"PIECE",
+        BodyKind::RemoteAsk => b"REMOTEASK",
+        BodyKind::RemoteAnswer => b"REMOTEANSWER",
     }
 }
 

@@ -14,6 +14,8 @@ fn is_tool(word: &[u8]) -> bool
         || word == b"qstat".as_slice()
         || word == b"qdel".as_slice()
         || word == b"qmgr".as_slice()
+        || word == b"rqstat".as_slice()
+        || word == b"rqdel".as_slice()
 }
 
 // Adds copies of words.

@@ -72,7 +72,8 @@ fn is_sealed(key: &[u8; 32], bytes: &[u8]) -> bool
 /// which is a loss, and the wire tells nothing from then on.
 #[derive(Drop)]
 pub struct SealedWire<W: Wire + Drop> {
-    inner: W,
+    /// The other wire.
+    pub inner: W,
     key: Key,
     /// What is sent is put together here.
     room: Vec<u8>,
@@ -99,13 +100,6 @@ impl<W: Wire + Drop> SealedWire<W> {
             receive_faults: 0,
             send_faults: 0,
         })
-    }
-
-    /// The other wire.
-    pub fn inner(&self) -> &W
-        ensures { result.now ≡ self.now.inner }
-    {
-        &self.inner
     }
 
     // The bytes with their tag behind them, in the room.

@@ -40,7 +40,7 @@ fn is_key(alloc: Global, pairs: usize, pair: &[u8], end: &[u8]) -> Result<bool, 
     let inner = MemWire::new(alloc, Items::new(alloc), Vec::new(alloc), Vec::new(alloc));
     let mut wire = SealedWire::new(alloc, inner, key)?;
     let is_sent = wire.send(Address::Client(9), b"").is_ok();
-    Ok(is_sent && is_tag(wire.inner()))
+    Ok(is_sent && is_tag(&wire.inner))
 }
 
 // Does it say nothing?

@@ -88,7 +88,7 @@ fn what_is_sent_has_its_tag(rt: HostRuntime) -> Result<(), Fail> {
     let mut wire = sealed(rt.alloc(), &[])?;
     let first = wire.send(Address::Client(9), b"an answer").is_ok();
     let second = wire.send(Address::Client(9), b"").is_ok();
-    let kept = match wire.inner().kept() {
+    let kept = match wire.inner.kept() {
         [answer, empty] => is_sent(answer, &ANSWER) && is_sent(empty, &EMPTY),
         _ => false,
     };
@@ -119,7 +119,7 @@ fn false_datagrams_are_passed_over(rt: HostRuntime) -> Result<(), Fail> {
         ],
     )?;
     let answer = brings(&mut wire, &mut buf, b"an answer");
-    let receives = wire.inner().kept().len() == 9;
+    let receives = wire.inner.kept().len() == 9;
     let empty = brings(&mut wire, &mut buf, b"");
     let quiet = is_quiet(&mut wire, &mut buf);
     drop(wire);
@@ -137,7 +137,7 @@ fn the_longest_goes_and_comes(rt: HostRuntime) -> Result<(), Fail> {
     long.extend_from_slice(&LONG_TAG)?;
     let mut wire = sealed(alloc, &[&long])?;
     let sent = wire.send(Address::Client(9), &plain).is_ok();
-    let kept = match wire.inner().kept() {
+    let kept = match wire.inner.kept() {
         [kept] => is_sent(kept, &long),
         _ => false,
     };
@@ -160,7 +160,7 @@ fn faults_of_the_other_are_its_own(rt: HostRuntime) -> Result<(), Fail> {
     let sent = wire.send(Address::Client(9), b"an answer").is_ok();
     let failed = wire.receive(&mut buf).is_err();
     let quiet = is_quiet(&mut wire, &mut buf);
-    let kept = wire.inner().kept().len() == 3;
+    let kept = wire.inner.kept().len() == 3;
     drop(wire);
     assert_eq!(rt; [lost, sent, failed, quiet, kept], [true; 5]);
     Ok(())

@@ -21,8 +21,8 @@ use Rattle.nqs_packets.specs.Letters.{fits_datagram, head_of, letters_of, number
 use Rattle.nqs_packets.specs.Messages.{in_datagram, ReadsTheSpelling}
 use Rattle.nqs_packets.specs.Reading.{message_of}
 use Rattle.nqs_packets.specs.Spelling.{kind_of, spelling}
-use Rattle.nqs_serve.specs.Events.{Here, is_for, are_of_site, event_said}
-use Rattle.nqs_serve.specs.Gathers.{Heard, is_keyed, event_made, event_fed, heard_fed, heard, BringAtLast, HeardFromTheirLetters}
+use Rattle.nqs_serve.specs.Events.{Here, is_for, are_of_site}
+use Rattle.nqs_serve.specs.Gathers.{Heard, is_keyed, brought_said, brought_made, brought_fed, heard_fed, heard, BringAtLast, HeardFromTheirLetters}
 use Rattle.nqs_serve.proofs.Gathers.{heard_alone, heard_read, heard_here, made_read}
 
 -- a test of each number of a run
@@ -152,38 +152,38 @@ module _ (here : Here) (m : Message) (home : is_for here m ≡ true) where
 
   module _ (short : length bytes_in ≤ 1052672) (read : message_of bytes_in ≡ Ok m) where
     -- the message that the pieces made is heard
-    whole_event : event_made here (key_of (head_of m)) bytes_in ≡ event_said here (Ok m)
-    whole_event =
+    whole_brings : brought_made here (key_of (head_of m)) bytes_in ≡ brought_said here (Ok m)
+    whole_brings =
         made_read here (key_of (head_of m)) bytes_in m short read
-        ∙ ap (λ (b : Bool). if b then event_said here (Ok m) else None) (is_its_key m)
+        ∙ ap (λ (b : Bool). if b then brought_said here (Ok m) else None) (is_its_key m)
 
     module _ (makes : MakesTheMessage bytes_in (head_of m)) (g : List Gathered) (new : is_awaited (key_of (head_of m)) g ≡ false) where
       abbrev then_at : ℕ → List Gathered
       then_at k = after_feeds (parts 0 k) g
 
       from_part : (d k : ℕ) → k + suc d ≡ piece_count bytes_in → list_all fits_datagram (map piece_letter (parts k (suc d))) ≡ true
-          → All IsRead (parts k (suc d)) → BringAtLast here (then_at k) (map piece_letter (parts k (suc d))) (event_said here (Ok m))
+          → All IsRead (parts k (suc d)) → BringAtLast here (then_at k) (map piece_letter (parts k (suc d))) (brought_said here (Ok m))
       from_part zero k is fit are =
           let fits = and_parts (fits_datagram (piece_letter (part k))) true fit in
-          ap (λ (h : Heard). h.event) (part_heard (then_at k) k fits.0 (All-head IsRead (part k) [] are))
-          ∙ ap (event_fed here (key_of (head_of m))) (at_last bytes_in (head_of m) makes g new k (omega arith)) ∙ whole_event
+          ap (λ (h : Heard). h.brought) (part_heard (then_at k) k fits.0 (All-head IsRead (part k) [] are))
+          ∙ ap (brought_fed here (key_of (head_of m))) (at_last bytes_in (head_of m) makes g new k (omega arith)) ∙ whole_brings
       from_part (suc d) k is fit are =
           let fits = and_parts (fits_datagram (piece_letter (part k))) (list_all fits_datagram (map piece_letter (parts (k + 1) (suc d)))) fit in
           let hears = part_heard (then_at k) k fits.0 (All-head IsRead (part k) (parts (k + 1) (suc d)) are) in
           let grows : then_at (k + 1) ≡ (heard here (then_at k) (came (piece_letter (part k)))).gathered =
           at_more bytes_in (head_of m) makes g new k ∙ sym (ap (λ (h : Heard). h.gathered) hears) in (
-            ap (λ (h : Heard). h.event) hears
-                ∙ ap (event_fed here (key_of (head_of m))) (not_yet bytes_in (head_of m) makes g new k (omega arith)),
-            subst (λ (now : List Gathered). BringAtLast here now (map piece_letter (parts (k + 1) (suc d))) (event_said here (Ok m))) grows
+            ap (λ (h : Heard). h.brought) hears
+                ∙ ap (brought_fed here (key_of (head_of m))) (not_yet bytes_in (head_of m) makes g new k (omega arith)),
+            subst (λ (now : List Gathered). BringAtLast here now (map piece_letter (parts (k + 1) (suc d))) (brought_said here (Ok m))) grows
                 (from_part d (k + 1) (omega arith) fits.1 (All-tail IsRead (part k) (parts (k + 1) (suc d)) are)),
           )
 
       -- all pieces, of which there are some
       from_first : (n : ℕ) → n ≡ piece_count bytes_in → 0 < n → list_all fits_datagram (map piece_letter (parts 0 n)) ≡ true → All IsRead (parts 0 n)
-          → BringAtLast here g (map piece_letter (parts 0 n)) (event_said here (Ok m))
+          → BringAtLast here g (map piece_letter (parts 0 n)) (brought_said here (Ok m))
       from_first zero is some fit are = absurd (omega arith)
       from_first (suc d) is some fit are =
-          subst (λ (now : List Gathered). BringAtLast here now (map piece_letter (parts 0 (suc d))) (event_said here (Ok m))) (before_any g)
+          subst (λ (now : List Gathered). BringAtLast here now (map piece_letter (parts 0 (suc d))) (brought_said here (Ok m))) (before_any g)
           (from_part d 0 (omega (arith, is)) fit are)
 
 -- a long message has a piece
@@ -205,15 +205,15 @@ pub heard_from_letters : ((bytes : List ℕ) (head : Piece) → MakesTheMessage 
     → EachLetterFits → HeardFromTheirLetters
 heard_from_letters makes back reads goes each here g m may words are alone home new = elim (cases_Bool (fits_datagram (spelling m))) [
   | inl fits ↦
-      subst (λ (letters : List (List ℕ)). BringAtLast here g letters (event_said here (Ok m))) (sym (one m fits))
-      (ap (λ (h : Heard). h.event)
+      subst (λ (letters : List (List ℕ)). BringAtLast here g letters (brought_said here (Ok m))) (sym (one m fits))
+      (ap (λ (h : Heard). h.brought)
       (heard_read here g (spelling m) m (leb-true (length (spelling m)) 49152 fits) ((reads (spelling m) m are).1 (refl, may))
       ∙ heard_alone here g m alone))
   | inr more ↦
       let go = goes m may words in
       let long : 49152 < length (spelling m) = grind (arith, nat_tests, more) in
       let fit = ap (list_all fits_datagram) (sym (several m more)) ∙ each m in
-      subst (λ (letters : List (List ℕ)). BringAtLast here g letters (event_said here (Ok m))) (sym (several m more))
+      subst (λ (letters : List (List ℕ)). BringAtLast here g letters (brought_said here (Ok m))) (sym (several m more))
       (from_first here m home go.short ((reads (spelling m) m are).1 (refl, may)) (makes (spelling m) (head_of m)) g new (piece_count (spelling m)) refl
       (some_pieces (spelling m) long) fit (back m go long))
 ]

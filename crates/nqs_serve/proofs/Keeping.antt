@@ -2,7 +2,6 @@
 use Rattle.std.proofs.Common.{◌≡◌, ℕ, List, [], ◌∷◌, ◌++◌, None, refl, sym, ap, ◌∙◌, subst, append_assoc}
 use Rattle.std.proofs.lemmas.List.{append-nil}
 use Rattle.nqs_state.specs.State.{Plain}
-use Rattle.nqs_types.specs.declared.event.Event.{Event}
 use Rattle.nqs_types.specs.declared.world.Which.{Which}
 use Rattle.nqs_outside.specs.History.{History}
 use Rattle.nqs_outside.specs.declared.disk.Disk as disk
@@ -18,7 +17,7 @@ use Rattle.nqs_node.proofs.Nothing.{told_images}
 use Rattle.nqs_serve.specs.Events.{Here}
 use Rattle.nqs_serve.specs.Keeping.{AreKept, active_after, Keeps, KeepsTill}
 use Rattle.nqs_serve.specs.Nodes.{Knows}
-use Rattle.nqs_serve.specs.Runs.{Act, Turn, turn, after, IsRun, run_calls}
+use Rattle.nqs_serve.specs.Runs.{Act, Turn, after, IsRun, run_calls}
 use Rattle.nqs_serve.proofs.Acts.{calls_lead}
 
 active_append : (xs ys : List (Stepped (List ℕ))) (a : Active) → active_after (xs ++ ys) a ≡ active_after ys (active_after xs a)
@@ -94,19 +93,18 @@ module _ {D : Type 0} {g : disk.Ghosts D} where
 
   -- behind a run
 
-  pub run_then : (here : Here) (a b c : Node D g) (acts : List Act) (s : Plain) (waits : List Event) (v : Turn) (ys : List (Stepped (List ℕ))) (failed : Kept)
-      → IsRun here (turn s waits) acts → after here (turn s waits) acts ≡ v → Keeps a b s (run_calls here (turn s waits) acts)
-      → KeepsTill b c v.state ys failed → KeepsTill a c s (run_calls here (turn s waits) acts ++ ys) failed
-  run_then here a b c acts s waits v ys failed run leads one two =
-      kept_then a b c s (run_calls here (turn s waits) acts) ys failed one
-      (subst (λ (u : Plain). KeepsTill b c u ys failed) (sym (calls_lead here acts s waits run ∙ ap (λ (w : Turn). w.state) leads)) two)
+  pub run_then : (here : Here) (a b c : Node D g) (acts : List Act) (t v : Turn) (ys : List (Stepped (List ℕ))) (failed : Kept) → IsRun here t acts
+      → after here t acts ≡ v → Keeps a b t.state (run_calls here t acts) → KeepsTill b c v.state ys failed
+      → KeepsTill a c t.state (run_calls here t acts ++ ys) failed
+  run_then here a b c acts t v ys failed run leads one two =
+      kept_then a b c t.state (run_calls here t acts) ys failed one
+      (subst (λ (u : Plain). KeepsTill b c u ys failed) (sym (calls_lead here acts t run ∙ ap (λ (w : Turn). w.state) leads)) two)
 
-  pub run_both : (here : Here) (a b c : Node D g) (acts : List Act) (s : Plain) (waits : List Event) (v : Turn) (ys : List (Stepped (List ℕ)))
-      → IsRun here (turn s waits) acts → after here (turn s waits) acts ≡ v → Keeps a b s (run_calls here (turn s waits) acts) → Keeps b c v.state ys
-      → Keeps a c s (run_calls here (turn s waits) acts ++ ys)
-  run_both here a b c acts s waits v ys run leads one two =
-      kept_both a b c s (run_calls here (turn s waits) acts) ys one
-      (subst (λ (u : Plain). Keeps b c u ys) (sym (calls_lead here acts s waits run ∙ ap (λ (w : Turn). w.state) leads)) two)
+  pub run_both : (here : Here) (a b c : Node D g) (acts : List Act) (t v : Turn) (ys : List (Stepped (List ℕ))) → IsRun here t acts → after here t acts ≡ v
+      → Keeps a b t.state (run_calls here t acts) → Keeps b c v.state ys → Keeps a c t.state (run_calls here t acts ++ ys)
+  run_both here a b c acts t v ys run leads one two =
+      kept_both a b c t.state (run_calls here t acts) ys one
+      (subst (λ (u : Plain). Keeps b c u ys) (sym (calls_lead here acts t run ∙ ap (λ (w : Turn). w.state) leads)) two)
 
   -- as far as an event that was cut off, behind other calls
   pub behind_both : (a c : Node D g) (s : Plain) (all xs ys done : List (Stepped (List ℕ))) (failed : Kept) → all ≡ xs ++ ys

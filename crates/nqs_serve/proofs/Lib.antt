@@ -9,11 +9,15 @@ mod Sendable
 pub mod Ending
 mod Known
 mod Tellings
+mod Relays
 mod Keeping
 mod Passing
+mod Turning
 mod Leaving
 pub mod Moments
 mod Sorting
+mod Brought
 mod Gathers
 mod Hearing
 mod Sampled
+mod SampledErrand

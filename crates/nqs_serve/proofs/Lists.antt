@@ -20,6 +20,7 @@ use Rattle.nqs_serve.specs.Letters.{letter_of, packets_in, packets_to, AreReady}
 use Rattle.nqs_serve.specs.Runs.{Outcome, packets, packets_by, sends, comeback_of, asked_by, prints_by, filings_by, Carried}
 use Rattle.nqs_serve.specs.Tellings.{Telling, Adds, Passes}
 use Rattle.nqs_serve.proofs.Tellings.{adds_then, passes_as}
+use Rattle.nqs_serve.specs.declared.asker.Asker.{Asker}
 use Rattle.nqs_serve.specs.declared.letter.Letter.{Letter}
 
 -- one outcome more, in a list of what outcomes ask
@@ -33,22 +34,23 @@ told_more f os o was mid now first second = extends_same was now (flat_map f os 
     (extends_then was mid now (flat_map f os) (f o) first second)
 
 -- the same of what is sent
-sent_more : (here : Here) (os : List Outcome) (o : Outcome) (was mid now : Option (List Traffic)) → Extends was mid (sends here os)
-    → Extends mid now (map outbound (packets_by here o.output)) → Extends was now (sends here (os ++ o ∷ []))
-sent_more here os o was mid now first second =
-    extends_same was now (sends here os ++ map outbound (packets_by here o.output)) (sends here (os ++ o ∷ []))
-    (sym (map-append outbound (packets here os) (packets_by here o.output))
-    ∙ ap (map outbound) (one_more (λ (x : Outcome). packets_by here x.output) os o))
-    (extends_then was mid now (sends here os) (map outbound (packets_by here o.output)) first second)
+sent_more : (here : Here) (asker : Option Asker) (os : List Outcome) (o : Outcome) (was mid now : Option (List Traffic))
+    → Extends was mid (sends here asker os) → Extends mid now (map outbound (packets_by here asker o.output))
+    → Extends was now (sends here asker (os ++ o ∷ []))
+sent_more here asker os o was mid now first second =
+    extends_same was now (sends here asker os ++ map outbound (packets_by here asker o.output)) (sends here asker (os ++ o ∷ []))
+    (sym (map-append outbound (packets here asker os) (packets_by here asker o.output))
+    ∙ ap (map outbound) (one_more (λ (x : Outcome). packets_by here asker x.output) os o))
+    (extends_then was mid now (sends here asker os) (map outbound (packets_by here asker o.output)) first second)
 
 -- one output more was carried out
-pub carried_more : (here : Here) (os : List Outcome) (o : Outcome) (letter : Option Letter) (was mid now : Telling) → letter ≡ letter_of here o.output
-    → Carried here os was mid
+pub carried_more : (here : Here) (asker : Option Asker) (os : List Outcome) (o : Outcome) (letter : Option Letter) (was mid now : Telling)
+    → letter ≡ letter_of here asker o.output → Carried here asker os was mid
     → Adds mid now (map outbound (packets_in letter)) (asked_by o.output o.ok) (prints_by o.output o.ok) (filings_by o.output o.ok) []
-    → Carried here (os ++ o ∷ []) was now
-carried_more here os o letter was mid now is one two = record {
-  traffic = sent_more here os o was.traffic mid.traffic now.traffic one.traffic
-      (extends_same mid.traffic now.traffic (map outbound (packets_in letter)) (map outbound (packets_by here o.output))
+    → Carried here asker (os ++ o ∷ []) was now
+carried_more here asker os o letter was mid now is one two = record {
+  traffic = sent_more here asker os o was.traffic mid.traffic now.traffic one.traffic
+      (extends_same mid.traffic now.traffic (map outbound (packets_in letter)) (map outbound (packets_by here asker o.output))
       (ap (λ d. map outbound (packets_in d)) is) two.traffic);
   asked = told_more (λ (x : Outcome). asked_by x.output x.ok) os o was.asked mid.asked now.asked one.asked two.asked;
   prints = told_more (λ (x : Outcome). prints_by x.output x.ok) os o was.prints mid.prints now.prints one.prints two.prints;
@@ -112,15 +114,16 @@ passes_more to datagrams i datagram bytes less is same was mid now before then =
     passes_as was now _ _ (sym all) (adds_then was mid now before then)
 
 -- those that have their datagrams are the first
-pub ready_front : (here : Here) (was went now : List Output) (letters : List (Option Letter)) → now ≡ was ++ went → AreReady here was letters
-    → AreReady here (take (length letters) now) letters
-ready_front here was went now letters grown ready =
-    let count : length letters ≡ length was = ap (λ (l : List (Option Letter)). length l) ready ∙ length-map was (letter_of here) in
-    ready ∙ ap (map (letter_of here)) (sym (ap (λ n. take n now) count ∙ ap (take (length was)) grown ∙ take-append_seam was went))
+pub ready_front : (here : Here) (asker : Option Asker) (was went now : List Output) (letters : List (Option Letter)) → now ≡ was ++ went
+    → AreReady here asker was letters → AreReady here asker (take (length letters) now) letters
+ready_front here asker was went now letters grown ready =
+    let count : length letters ≡ length was = ap (λ (l : List (Option Letter)). length l) ready ∙ length-map was (letter_of here asker) in
+    ready ∙ ap (map (letter_of here asker)) (sym (ap (λ n. take n now) count ∙ ap (take (length was)) grown ∙ take-append_seam was went))
 
 -- all of them have theirs, where a call that adds the others says so
-pub ready_all : {here there : Here} (before now : List Output) {letters all : List (Option Letter)} → there ≡ here
-    → AreReady here (take (length letters) before) letters → (AreReady there (take (length letters) before) letters → AreReady there now all)
-    → AreReady here now all
-ready_all {here} {there} before now {letters} {all} is_here front adds =
-    subst (λ (h : Here). AreReady h now all) is_here (adds (subst (λ (h : Here). AreReady h (take (length letters) before) letters) (sym is_here) front))
+pub ready_all : {here there : Here} (asker : Option Asker) (before now : List Output) {letters all : List (Option Letter)} → there ≡ here
+    → AreReady here asker (take (length letters) before) letters
+    → (AreReady there asker (take (length letters) before) letters → AreReady there asker now all) → AreReady here asker now all
+ready_all {here} {there} asker before now {letters} {all} is_here front adds =
+    subst (λ (h : Here). AreReady h asker now all) is_here
+    (adds (subst (λ (h : Here). AreReady h asker (take (length letters) before) letters) (sym is_here) front))

@@ -12,7 +12,7 @@ use Rattle.nqs_types.specs.Scripts.{longest_script}
 use Rattle.nqs_types.specs.declared.ids.HostId.{HostId}
 use Rattle.nqs_types.specs.declared.message.Message.{Message}
 use Rattle.nqs_types.specs.declared.message.Body.{Body}
-use Rattle.nqs_types.specs.declared.message.Body.TheVariants.{Offer, Refused, Stage, Ask, Answer}
+use Rattle.nqs_types.specs.declared.message.Body.TheVariants.{Offer, Refused, Stage, Ask, Answer, RemoteAnswer}
 use Rattle.nqs_types.specs.declared.change.Change.{Change}
 use Rattle.nqs_types.specs.declared.request.Carried.{Carried}
 use Rattle.nqs_types.specs.declared.event.Event.{Event}
@@ -314,4 +314,5 @@ has_its_number m k = (and_parts (is_of_site 16 m.to) (has_number m.body)
 pub words_short : (b : Body) → has_number b ≡ true → has_short_words b ≡ true
 words_short (Ask port token user tool words script) is = cc
 words_short (Answer token ok text) is = cc
+words_short (RemoteAnswer number user tool words ok text) is = cc
 words_short b is = refl

@@ -19,7 +19,11 @@ use Rattle.nqs_serve.specs.Events.{Here, stops_by}
 use Rattle.nqs_serve.specs.Keeping.{KeptBehind}
 use Rattle.nqs_serve.specs.Nodes.{IsAt}
 use Rattle.nqs_serve.specs.Steps.{said, calls}
-use Rattle.nqs_serve.specs.Runs.{Act, received, took, Turn, next, Outcome, outputs_in, Begun, none_begun, begun}
+use Rattle.nqs_serve.specs.Errands.{Task, happens, to_do, event_in_task}
+use Rattle.nqs_serve.specs.Runs.{Act, received, Turn, next, Outcome, outputs_in, Begun, none_begun, begun, IsIdle}
+use Rattle.nqs_serve.specs.declared.asker.Asker.{Asker}
+use Rattle.nqs_serve.specs.declared.errand.Errand.{Errand}
+use Rattle.std.specs.declared.option.Option.{Option}
 use Rattle.nqs_serve.specs.declared.cut.Cut.{Cut}
 use Rattle.nqs_serve.specs.declared.cut.Cut.TheVariants as cut
 use Rattle.nqs_serve.specs.declared.daemon.ServeEnd.{ServeEnd}
@@ -27,8 +31,8 @@ use Rattle.nqs_serve.specs.declared.daemon.ServeEnd.TheVariants.{Shutdown, Turns
 
 -- of an act only a receive may bring a shutdown
 abbrev pub stop_of : Here → Turn → Act → List Bool
-stop_of here t (received arrival e) = stops_by e t.state ∷ []
-stop_of here t (took m outcomes) = []
+stop_of here t (received arrival b) = stops_by (event_in_task b) t.state ∷ []
+stop_of here t _ = []
 
 -- for each receive, whether it brought a shutdown that is answered Done
 abbrev pub stops : Here → Turn → List Act → List Bool
@@ -57,11 +61,16 @@ abbrev pub IsKeptWithin : Part → ℕ → Event → Plain → Plain → Type 0
 IsKeptWithin Keeps m e before s = (done : List (Stepped (List ℕ))) × (left : List (Stepped (List ℕ))) × (calls m e before ≡ done ++ left)
     × (s ≡ after_starts done before) × Keeps done None
 
+-- nothing was begun, or an errand alone, for which a moment was read
+abbrev pub IsAtRest : Turn → Begun → Type 0
+IsAtRest t more = (more ≡ none_begun) ⊎ ((e : Errand) × (ws : List Task) × (m : ℕ) × (t.waits ≡ to_do e ∷ ws) × (more ≡ begun m None []))
+
 -- the state before the next event is told; or nothing went out of that event, and one on the way to
 -- the state after it
 abbrev pub IsCutAt : Part → Turn → Begun → Plain → Type 0
-IsCutAt Keeps t more s = ((more ≡ none_begun) × (s ≡ t.state) × Keeps [] None)
-    ⊎ ((e : Event) × (es : List Event) × (m : ℕ) × (t.waits ≡ e ∷ es) × (more ≡ begun m []) × IsKeptWithin Keeps m e t.state s)
+IsCutAt Keeps t more s = (IsAtRest t more × (s ≡ t.state) × Keeps [] None)
+    ⊎ ((e : Event) × (asker : Option Asker) × (ws : List Task) × (m : ℕ) × (t.waits ≡ happens e asker ∷ ws) × (more ≡ begun m asker [])
+    × IsKeptWithin Keeps m e t.state s)
 
 -- it holds, unless this is want of memory
 abbrev pub UnlessWant : Cut → Type 0 → Type 0
@@ -91,7 +100,8 @@ pub record Broke (At : Plain → Type 0) (Keeps : List (Stepped (List ℕ)) → 
 -- a call of the next event failed, and what those before it say went out
 abbrev pub IsBroken : (Plain → Type 0) → Part → Turn → Begun → (Which → History) → Type 0
 IsBroken At Keeps t more now =
-    (e : Event) × (es : List Event) × (m : ℕ) × (os : List Outcome) × (t.waits ≡ e ∷ es) × (more ≡ begun m os)
+    (e : Event) × (asker : Option Asker) × (ws : List Task) × (m : ℕ) × (os : List Outcome) × (t.waits ≡ happens e asker ∷ ws)
+    × (more ≡ begun m asker os)
     × Broke At Keeps (calls m e t.state) t.state (outputs_in os) now
 
 -- no receive follows one that stops, and there are at most so many
@@ -105,23 +115,23 @@ pub record Receives (turns : ℕ) (bs : List Bool) : Type 0 where
 
 -- How a run ends. One predicate has the states that are told at its end, one those that the host is
 -- at, one what the disks kept behind the acts, and these are their histories then.
-abbrev pub EndsWith : (Told At : Plain → Type 0) → Part → (Which → History) → ServeEnd → ℕ → List Bool → Turn → Begun → Type 0
+abbrev pub EndsWith : Here → (Told At : Plain → Type 0) → Part → (Which → History) → ServeEnd → ℕ → List Bool → Turn → Begun → Type 0
 -- the last receive brought such a shutdown, and none before it did
-EndsWith Told At Keeps now Shutdown turns bs t more = (t.waits ≡ []) × (more ≡ none_begun) × Told t.state
+EndsWith here Told At Keeps now Shutdown turns bs t more = IsIdle here t × (more ≡ none_begun) × Told t.state
     × ((before : List Bool) × (bs ≡ before ++ true ∷ []) × NoneStops before × (length bs ≤ turns)) × Keeps [] None
-EndsWith Told At Keeps now TurnsUsed turns bs t more =
-    (t.waits ≡ []) × (more ≡ none_begun) × Told t.state × NoneStops bs × (length bs ≡ turns) × Keeps [] None
+EndsWith here Told At Keeps now TurnsUsed turns bs t more =
+    IsIdle here t × (more ≡ none_begun) × Told t.state × NoneStops bs × (length bs ≡ turns) × Keeps [] None
 -- the receive that failed is one more
-EndsWith Told At Keeps now WireFault turns bs t more =
-    (t.waits ≡ []) × (more ≡ none_begun) × Told t.state × NoneStops bs × (length bs < turns) × Keeps [] None
-EndsWith Told At Keeps now (DiskFault which) turns bs t more = IsBroken At Keeps t more now × Receives turns bs
-EndsWith Told At Keeps now (Memory _) turns bs t more = ((s : Plain) × Told s × IsCutAt Keeps t more s) × Receives turns bs
+EndsWith here Told At Keeps now WireFault turns bs t more =
+    IsIdle here t × (more ≡ none_begun) × Told t.state × NoneStops bs × (length bs < turns) × Keeps [] None
+EndsWith here Told At Keeps now (DiskFault which) turns bs t more = IsBroken At Keeps t more now × Receives turns bs
+EndsWith here Told At Keeps now (Memory _) turns bs t more = ((s : Plain) × Told s × IsCutAt Keeps t more s) × Receives turns bs
 
 module _ {D : Type 0} {g : disk.Ghosts D} where
   -- the same of a node, whose disks kept these calls of the acts before
-  abbrev pub Ends : Node D g → Plain → List (Stepped (List ℕ)) → ServeEnd → ℕ → List Bool → Turn → Begun → Node D g → Type 0
-  Ends old s before end turns bs t more node =
-      EndsWith (Tells node) (IsAt node) (KeptBehind old node s before) (history_of node) end turns bs t more
+  abbrev pub Ends : Here → Node D g → Plain → List (Stepped (List ℕ)) → ServeEnd → ℕ → List Bool → Turn → Begun → Node D g → Type 0
+  Ends here old s before end turns bs t more node =
+      EndsWith here (Tells node) (IsAt node) (KeptBehind old node s before) (history_of node) end turns bs t more
 
 -- a turn whose event was cut off by this is the last
 abbrev pub end_of : Cut → ServeEnd

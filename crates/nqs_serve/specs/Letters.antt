@@ -15,7 +15,9 @@ use Rattle.nqs_outside.specs.declared.wire.Address.{Address}
 use Rattle.nqs_outside.specs.declared.wire.Address.TheVariants.{Host, Client}
 use Rattle.nqs_packets.specs.Letters.{letters_of}
 use Rattle.nqs_serve.specs.Events.{Here}
+use Rattle.nqs_serve.specs.declared.asker.Asker.{Asker}
 use Rattle.nqs_serve.specs.declared.letter.Letter.{Letter}
+use Rattle.nqs_types.specs.declared.ids.HostId.{HostId}
 
 -- a byte before whole lines, or before none
 abbrev pub with_lines : ℕ → List ℕ → List ℕ
@@ -50,12 +52,21 @@ posted to m = letter to (letters_of m)
 abbrev pub from_me : Here → Body → Message
 from_me here b = record { from = here.me; to = here.me; body = b }
 
--- a client and a shepherd are at a port of this host
-abbrev pub letter_of : Here → Output → Option Letter
-letter_of here (out.Reply port token r) = Some (posted (Client port) (from_me here (body.Answer token (is_answered r) (cut_text (reply_text here.site r)))))
-letter_of here (out.Send m) = Some (posted (Host m.to) m)
-letter_of here (out.Ack port id start) = Some (posted (Client port) (from_me here (body.EndedAck id start)))
-letter_of here _ = None
+-- the answer to a host that asked, which says again what it asked
+abbrev pub answer_to_host : HostId → Asker → Bool → List ℕ → Message
+answer_to_host me a ok text = record { from = me; to = a.host; body = body.RemoteAnswer a.number a.user a.tool a.words ok text }
+
+-- the answer to who asked: another host, or else a client at a port of this host
+abbrev pub answer_letter : Here → Option Asker → ℕ → ℕ → Bool → List ℕ → Letter
+answer_letter here None port token ok text = posted (Client port) (from_me here (body.Answer token ok text))
+answer_letter here (Some asker) port token ok text = posted (Host asker.host) (answer_to_host here.me asker ok text)
+
+-- of what was asked for by this host, or by none; a client and a shepherd are at a port of this host
+abbrev pub letter_of : Here → Option Asker → Output → Option Letter
+letter_of here asker (out.Reply port token r) = Some (answer_letter here asker port token (is_answered r) (cut_text (reply_text here.site r)))
+letter_of here asker (out.Send m) = Some (posted (Host m.to) m)
+letter_of here asker (out.Ack port id start) = Some (posted (Client port) (from_me here (body.EndedAck id start)))
+letter_of here asker _ = None
 
 -- datagrams to one place, as packets
 abbrev pub packets_to : Address → List (List ℕ) → List Packet
@@ -67,5 +78,5 @@ packets_in None = []
 packets_in (Some l) = packets_to l.to l.datagrams
 
 -- each output has its datagrams, if it has any
-abbrev pub AreReady : Here → List Output → List (Option Letter) → Type 0
-AreReady here outputs letters = letters ≡ map (letter_of here) outputs
+abbrev pub AreReady : Here → Option Asker → List Output → List (Option Letter) → Type 0
+AreReady here asker outputs letters = letters ≡ map (letter_of here asker) outputs

@@ -1,5 +1,6 @@
 pub mod Events
 pub mod Letters
+pub mod Errands
 pub mod Sends
 pub mod Steps
 pub mod Tellings

@@ -11,7 +11,10 @@ use Rattle.nqs_store.specs.Images.{IsTold}
 use Rattle.nqs_store.specs.Plan.{commit_calls}
 use Rattle.nqs_serve.specs.Ends.{IsWithin}
 use Rattle.nqs_serve.specs.Events.{Here}
+use Rattle.nqs_serve.specs.Errands.{Task, happens}
 use Rattle.nqs_serve.specs.Runs.{Act, Turn, after, moments}
+use Rattle.nqs_serve.specs.declared.asker.Asker.{Asker}
+use Rattle.std.specs.declared.option.Option.{Option}
 
 -- the calls of a commit of some bytes where this journal is active, in their order over all disks,
 -- or the first of them
@@ -54,7 +57,9 @@ TellsThroughout a old now P = (to : Active) × TellsTo a to old now P
 -- the state of a turn, or, where a moment was read for the next event that waits, one on the way to
 -- the state after it
 abbrev pub IsAmid : Turn → List ℕ → Plain → Type 0
-IsAmid t ms u = (u ≡ t.state) ⊎ ((e : Event) × (es : List Event) × (m : ℕ) × (rest : List ℕ) × (t.waits ≡ e ∷ es) × (ms ≡ m ∷ rest) × IsWithin m e t.state u)
+IsAmid t ms u = (u ≡ t.state)
+    ⊎ ((e : Event) × (asker : Option Asker) × (ws : List Task) × (m : ℕ) × (rest : List ℕ) × (t.waits ≡ happens e asker ∷ ws) × (ms ≡ m ∷ rest)
+    × IsWithin m e t.state u)
 
 -- A state that a run passes: some of its acts were done and the others were to come, of which the
 -- next may have begun. The clock gave these moments more.

@@ -1,10 +1,17 @@
 -- What a host of a site of so many may send, apart from how long the script or output is that it
 -- carries.
-use Rattle.std.specs.Prelude.{◌≡◌, ℕ, Bool, true, ◌&&◌, ◌||◌, ◌==◌, nat_le, List, []}
+use Rattle.std.specs.Prelude.{◌≡◌, ℕ, Bool, true, ◌&&◌, ◌||◌, ◌==◌, nat_le, IsTrue, List, []}
 use Rattle.std.specs.List.{list_all}
 use Rattle.nqs_types.specs.declared.ids.RequestId.{RequestId}
 use Rattle.nqs_types.specs.declared.message.Message.{Message}
 use Rattle.nqs_types.specs.declared.message.Body.{Body}
+use Rattle.nqs_types.specs.declared.message.Body.TheVariants.{RemoteAsk}
+use Rattle.nqs_types.specs.declared.ids.HostId.{HostId}
+use Rattle.std.specs.declared.option.Option.{Option}
+use Rattle.std.specs.declared.option.Option.TheVariants.{None, Some}
+use Rattle.nqs_packets.specs.Parts.{is_number}
+use Rattle.nqs_packets.specs.Values.{AreRemoteWords, IsRemoteTool, MaySend}
+use Rattle.nqs_serve.specs.declared.asker.Asker.{Asker}
 use Rattle.nqs_types.specs.declared.event.Event.{Event}
 use Rattle.nqs_types.specs.declared.event.Event.TheVariants as event
 use Rattle.nqs_types.specs.declared.event.Output.{Output}
@@ -45,3 +52,13 @@ abbrev pub is_right_event : ℕ → Event → Bool
 is_right_event hosts (event.Arrived _ m) = is_of_site hosts m.from && has_number m.body
 is_right_event hosts (event.Ended _ port id _ _ _ _) = port == 0 || is_right_id hosts id
 is_right_event hosts _ = true
+
+-- what a host that asked this one sent may have been sent
+abbrev pub IsRightAsker : HostId → Option Asker → Type 0
+IsRightAsker me (Some a) = MaySend (record { from = a.host; to = me; body = RemoteAsk a.number a.user a.tool a.words })
+IsRightAsker me None = Unit {0}
+
+-- what may be asked of another host, where its user and number are those of the code's types
+abbrev pub IsRightAsk : Body → Type 0
+IsRightAsk (RemoteAsk number user tool words) = IsTrue (is_number number) × IsRemoteTool tool × AreRemoteWords words
+IsRightAsk _ = ⊥

@@ -12,7 +12,7 @@ use Rattle.nqs_rules.specs.Sane.{is_of_site}
 use Rattle.nqs_outside.specs.Asked.{came}
 use Rattle.nqs_packets.specs.Reading.{message_of, is_fault_of_memory}
 use Rattle.nqs_packets.specs.declared.fault.PacketFault.{PacketFault}
-use Rattle.nqs_serve.specs.Events.{Here, is_whole, are_of_site, event_of, event_in}
+use Rattle.nqs_serve.specs.Events.{Here, is_whole, are_of_site, is_elsewhere, event_of, event_in}
 use Rattle.nqs_serve.specs.declared.sort.IgnoreCause.TheVariants.{TooLong, Unread, NotHere, Stranger, NotAsked}
 use Rattle.nqs_serve.specs.declared.sort.Sorted.{Sorted}
 use Rattle.nqs_serve.specs.declared.sort.Sorted.TheVariants.{Event, Ignored}
@@ -25,13 +25,15 @@ is_here here m = same_host here.me m.to
 abbrev pub is_known : Here → Message → Bool
 is_known here m = is_of_site (length here.site) m.from && are_of_site (length here.site) m.body
 
--- what is said to a client or a shepherd, an answer or an acknowledgement of the end of a job; and
--- a piece of a message
-abbrev pub is_said_back : Body → Bool
-is_said_back (body.Answer _ _ _) = true
-is_said_back (body.EndedAck _ _) = true
-is_said_back (body.Piece _ _ _ _ _ _) = true
-is_said_back _ = false
+-- what is said to a client or a shepherd, an answer or an acknowledgement of the end of a job; a
+-- piece of a message; and what is asked of another host, or its answer
+abbrev pub is_said_back : Here → Body → Bool
+is_said_back here (body.Answer _ _ _) = true
+is_said_back here (body.EndedAck _ _) = true
+is_said_back here (body.Piece _ _ _ _ _ _) = true
+is_said_back here (body.Ask _ _ _ tool words _) = is_elsewhere here tool words
+is_said_back here (body.RemoteAnswer _ _ _ _ _ _) = true
+is_said_back here _ = false
 
 -- bytes that may be a message's, and are read as a message that has P
 abbrev pub Reads : List ℕ → (Message → Type 0) → Type 0
@@ -44,8 +46,8 @@ IsSorted here bytes (Ignored TooLong) = 1052672 < length bytes
 IsSorted here bytes (Ignored (Unread fault)) = (length bytes ≤ 1052672) × (message_of bytes ≡ Err fault)
 IsSorted here bytes (Ignored NotHere) = Reads bytes (λ m. is_here here m ≡ false)
 IsSorted here bytes (Ignored Stranger) = Reads bytes (λ m. IsTrue (is_here here m) × (is_known here m ≡ false))
-IsSorted here bytes (Ignored NotAsked) = Reads bytes (λ m. IsTrue (is_here here m) × IsTrue (is_known here m) × IsTrue (is_said_back m.body))
-IsSorted here bytes (Event e) = Reads bytes (λ m. IsTrue (is_here here m) × IsTrue (is_known here m) × (event_of m ≡ Some e))
+IsSorted here bytes (Ignored NotAsked) = Reads bytes (λ m. IsTrue (is_here here m) × IsTrue (is_known here m) × IsTrue (is_said_back here m.body))
+IsSorted here bytes (Event e) = Reads bytes (λ m. IsTrue (is_here here m) × IsTrue (is_known here m) × (event_of here m ≡ Some e))
 
 -- the same as a function of the bytes
 
@@ -56,7 +58,7 @@ event_sorted (Some e) = Event e
 
 -- by a message
 abbrev pub message_sorted : Here → Message → Sorted
-message_sorted here m = if is_here here m then (if is_known here m then event_sorted (event_of m) else Ignored Stranger) else Ignored NotHere
+message_sorted here m = if is_here here m then (if is_known here m then event_sorted (event_of here m) else Ignored Stranger) else Ignored NotHere
 
 -- by what was read
 abbrev pub read_sorted : Here → Result Message PacketFault → Sorted

@@ -9,6 +9,8 @@ ghost use Rattle.nqs_serve.specs.Events.{Here};
 ghost use Rattle.nqs_serve.specs.Letters.{letter_of, packets_in, packets_to};
 ghost use Rattle.nqs_serve.specs.Runs.{Outcome, asked_by, prints_by, filings_by, comeback_of, outputs_in, brought_back, Carried};
 ghost use Rattle.nqs_serve.specs.Tellings.{Adds, Passes, Does};
+ghost use Rattle.nqs_serve.specs.declared.asker.Asker.{Asker};
+ghost use Rattle.std.specs.declared.option.Option.{Option};
 
 use crate::comeback::{Comeback, comeback_of};
 use crate::letter::Letter;
@@ -29,9 +31,9 @@ fn send_all<X: Outside>(outside: &mut X, to: Address, datagrams: &[Bytes])
     }
 }
 
-// Sends the datagrams of an output, if it has any.
+/// Sends the datagrams of a letter, if there is one.
 #[tactic(auto, using(crate::proofs::Tellings::adds_none))]
-fn send<X: Outside>(outside: &mut X, letter: &Option<Letter>)
+pub(crate) fn send<X: Outside>(outside: &mut X, letter: &Option<Letter>)
     ensures sends { Passes (X.told outside.old) (X.told outside.new) (map outbound (packets_in letter.now)) }
     ensures heard { X.receive_faults outside.new ≡ X.receive_faults outside.old }
     ensures borrows { X.borrows outside.new ≡ X.borrows outside.old }
@@ -110,9 +112,10 @@ pub(crate) fn carry<X: Outside>(
 )
     requires room { length back.old.items + length outputs.now ≤ deque_capacity back.old }
     requires many { length letters.now ≡ length outputs.now }
-    ensures carried { (here : Here) → letters.now ≡ map (letter_of here) outputs.now → (outcomes : List Outcome) × (outputs_in outcomes ≡ outputs.now)
+    ensures carried { (here : Here) (asker : Option Asker) → letters.now ≡ map (letter_of here asker) outputs.now
+        → (outcomes : List Outcome) × (outputs_in outcomes ≡ outputs.now)
         × (back.new.items ≡ back.old.items ++ brought_back outcomes)
-        × Carried here outcomes (X.told outside.old) (X.told outside.new) }
+        × Carried here asker outcomes (X.told outside.old) (X.told outside.new) }
     ensures few { length back.new.items ≤ length back.old.items + comebacks outputs.now }
     ensures heard { X.receive_faults outside.new ≡ X.receive_faults outside.old }
     ensures borrows { X.borrows outside.new ≡ X.borrows outside.old }

@@ -1,6 +1,6 @@
 //! The daemon's loop.
 
-ghost use Rattle.std.specs.Prelude.{◌≡◌, ◌≢◌, ◌<◌, ◌∷◌, [], false, length, List, IsTrue, IfOk, IfErr, IsErrOf};
+ghost use Rattle.std.specs.Prelude.{◌≡◌, ◌≢◌, ◌<◌, ◌∷◌, [], ℕ, Bool, false, length, List, IsTrue, IfOk, IfErr, IsErrOf, None};
 ghost use Rattle.nqs_state.specs.State.{Plain};
 ghost use Rattle.nqs_types.specs.declared.world.Which.{Which};
 ghost use Rattle.nqs_outside.specs.Causes.{Rose};
@@ -9,23 +9,33 @@ ghost use Rattle.nqs_records.specs.Values.{IsHost};
 ghost use Rattle.nqs_store.specs.Sound.{IsSoundHost};
 ghost use Rattle.nqs_serve.specs.Events.{Here};
 ghost use Rattle.nqs_serve.specs.Keeping.{Keeps};
-ghost use Rattle.nqs_serve.specs.Runs.{Act, Turn, idle, AreHeard, gathered, Ran, Begun, none_begun, run_calls};
+ghost use Rattle.nqs_serve.specs.Runs.{Act, Turn, begins, idle, turn, AreHeard, AreInner, IsIdle, gathered, Ran, Begun, none_begun, run_calls};
+ghost use Rattle.nqs_serve.specs.Errands.{happens};
+ghost use Rattle.nqs_serve.specs.Sends.{is_right_event, IsRightAsker};
+ghost use Rattle.nqs_rules.specs.Sane.{is_sane_event};
+ghost use Rattle.nqs_rules.specs.Shutdowns.{shuts_down};
 ghost use Rattle.nqs_serve.specs.Nodes.{Knows, here_of};
 ghost use Rattle.nqs_serve.specs.Leaves.{Leaves};
-ghost use Rattle.nqs_serve.specs.Ends.{Ends, stops, end_of, cuts_off};
+ghost use Rattle.nqs_serve.specs.Ends.{Ends, Receives, stops, end_of, cuts_off};
+ghost use Rattle.nqs_serve.specs.Events.{is_tick};
+ghost use Rattle.std.specs.declared.option.Option.{Option};
 ghost use Rattle.nqs_serve.specs.Moments.{TellsThroughout, IsPassed};
 ghost use Rattle.nqs_serve.specs.Tellings.{telling, AddsNone};
 
+use crate::asker::Asker;
+use crate::came::Came;
 use crate::cut::Cut;
-use crate::gathering::Came;
+use crate::errand::Errand;
 use crate::notes::{Notes, Unnoted};
 use crate::outside::{Lent, Outside};
 use crate::receive::{Missed, receive};
+use crate::relay::{give_up, relay};
 use crate::take::{Outbox, take_back, take_event};
 use nqs_base::Memory;
 use nqs_node::Node;
 use nqs_outside::{Clock, Disk, Launcher, Outlet, Printer, Wire};
 use nqs_pieces::Gather;
+use nqs_remote::Remote;
 use nqs_types::{Event, HostId, Which};
 use std::alloc::Global;
 use std::collections::VecDeque;
@@ -80,10 +90,79 @@ struct Room {
     buf: Vec<u8>,
     gather: Gather,
     outbox: Outbox,
+    remote: Remote,
 }
 
-// One turn: a receive, the event that it brought, and those that come back of it. True: the host is
-// to stop now.
+// Nothing came.
+fn is_quiet(event: &Event) -> bool
+    ensures { result ≡ is_tick event.now }
+{
+    match event {
+        Event::Tick { .. } => true,
+        _ => false,
+    }
+}
+
+// Takes an event and those that come back of it; where nothing had come, asks that no host answered
+// in time are given up then. True: the host is to stop now.
+fn take_turn<D: Disk, X: Outside>(
+    me: HostId,
+    node: &mut Node<D>,
+    outside: &mut X,
+    event: &mut Event,
+    asker: &Option<Asker>,
+    room: &mut Room,
+) -> Result<bool, ServeEnd>
+    requires sound { IsSoundHost (content_of node.old) }
+    requires running { is_stopped node.old ≡ false }
+    requires host { IsHost me }
+    requires asker { IsRightAsker me asker.now }
+    requires sane { IsTrue (is_sane_event (length (content_of node.old).site) event.old) }
+    requires right { IsTrue (is_right_event (length (content_of node.old).site) event.old) }
+    ensures leaves { Leaves node.old node.new ServeEnd.DiskFault result }
+    ensures ok { (s : Plain) (here : Here) → Knows node.old s → here ≡ record { me = me; site = (content_of node.old).site }
+        → IfOk result (λ stop. (acts : List Act) × (u : Plain) × (quiet : Option ℕ) × Knows node.new u × (shuts_down event.old s ≡ stop)
+        × AreInner acts × IsIdle here (idle u room.new.remote quiet)
+        × Ran here acts (turn s (happens event.old asker.now ∷ []) room.old.remote None) (idle u room.new.remote quiet) none_begun
+        (X.told outside.old) (X.told outside.new)
+        × Keeps node.old node.new s (run_calls here (turn s (happens event.old asker.now ∷ []) room.old.remote None) acts)) }
+    ensures err { (s : Plain) (here : Here) → Knows node.old s → here ≡ record { me = me; site = (content_of node.old).site }
+        → IfErr result (λ end. (acts : List Act) × (t : Turn) × (more : Begun) × AreInner acts
+        × Ran here acts (turn s (happens event.old asker.now ∷ []) room.old.remote None) t more (X.told outside.old) (X.told outside.new)
+        × ((bs : List Bool) (turns : ℕ) → Receives turns bs
+        → Ends here node.old s (run_calls here (turn s (happens event.old asker.now ∷ []) room.old.remote None) acts) end turns bs t more node.new)) }
+    ensures early { IfErr result (λ end. IsTrue (cuts_off end)) }
+    ensures no_wire { IsErrOf result ServeEnd.WireFault → ⊥ }
+    ensures heard { X.receive_faults outside.new ≡ X.receive_faults outside.old }
+    ensures borrows { X.borrows outside.new ≡ X.borrows outside.old }
+    ensures same_gather { room.new.gather ≡ room.old.gather }
+    ensures same_length { length room.new.buf.items ≡ length room.old.buf.items }
+{
+    let quiet = is_quiet(event);
+    let outbox = &mut room.outbox;
+    outbox.back.clear();
+    let taken = match take_event(me, node, outside, event, asker, outbox) {
+        Err(cut) => return Err(end_of(cut)),
+        Ok(taken) => taken,
+    };
+    if let Err(cut) = take_back(me, node, outside, outbox) {
+        return Err(end_of(cut));
+    }
+    if !quiet {
+        return Ok(taken.halts);
+    }
+    let alloc = room.outbox.alloc;
+    let state = node.state();
+    let (site, patience) = (state.site.as_slice(), state.patience);
+    let remote = &mut room.remote;
+    match give_up(alloc, me, site, taken.moment, patience, remote, outside) {
+        Ok(()) => Ok(taken.halts),
+        Err(memory) => Err(ServeEnd::Memory(memory)),
+    }
+}
+
+// One turn: a receive, what it brought, and the events that come back of it. True: the host is to
+// stop now.
 fn turn<D: Disk, X: Outside>(
     me: HostId,
     node: &mut Node<D>,
@@ -95,15 +174,18 @@ fn turn<D: Disk, X: Outside>(
     requires host { IsHost me }
     requires room { 49_152 < length room.old.buf.items }
     ensures leaves { Leaves node.old node.new ServeEnd.DiskFault result }
-    ensures ok { (s : Plain) (here : Here) → Knows node.old s → here ≡ record { me = me; site = (content_of node.old).site }
-        → IfOk result (λ stop. (acts : List Act) × (u : Plain) × Knows node.new u × (stops here (idle s) acts ≡ stop ∷ [])
+    ensures ok { (s : Plain) (here : Here) (quiet : Option ℕ) → Knows node.old s → here ≡ record { me = me; site = (content_of node.old).site }
+        → IsIdle here (idle s room.old.remote quiet)
+        → IfOk result (λ stop. (acts : List Act) × (u : Plain) × (after : Option ℕ) × Knows node.new u
+        × (stops here (idle s room.old.remote quiet) acts ≡ stop ∷ []) × IsIdle here (idle u room.new.remote after)
         × AreHeard here room.old.gather acts × (room.new.gather ≡ gathered here room.old.gather acts)
-        × Ran here acts (idle s) (idle u) none_begun (X.told outside.old) (X.told outside.new)
-        × Keeps node.old node.new s (run_calls here (idle s) acts)) }
-    ensures err { (s : Plain) (here : Here) → Knows node.old s → here ≡ record { me = me; site = (content_of node.old).site }
+        × Ran here acts (idle s room.old.remote quiet) (idle u room.new.remote after) none_begun (X.told outside.old) (X.told outside.new)
+        × Keeps node.old node.new s (run_calls here (idle s room.old.remote quiet) acts)) }
+    ensures err { (s : Plain) (here : Here) (quiet : Option ℕ) → Knows node.old s → here ≡ record { me = me; site = (content_of node.old).site }
+        → IsIdle here (idle s room.old.remote quiet)
         → IfErr result (λ end. (acts : List Act) × (t : Turn) × (more : Begun) × AreHeard here room.old.gather acts
-        × Ran here acts (idle s) t more (X.told outside.old) (X.told outside.new)
-        × Ends node.old s (run_calls here (idle s) acts) end 1 (stops here (idle s) acts) t more node.new) }
+        × Ran here acts (idle s room.old.remote quiet) t more (X.told outside.old) (X.told outside.new)
+        × Ends here node.old s (run_calls here (idle s room.old.remote quiet) acts) end 1 (stops here (idle s room.old.remote quiet) acts) t more node.new) }
     ensures early { IfErr result (λ end. IsTrue (cuts_off end)) }
     ensures wire_fault { IsErrOf result ServeEnd.WireFault → Rose (X.receive_faults outside.old) (X.receive_faults outside.new) }
     ensures heard { (IsErrOf result ServeEnd.WireFault → ⊥) → X.receive_faults outside.new ≡ X.receive_faults outside.old }
@@ -112,29 +194,25 @@ fn turn<D: Disk, X: Outside>(
 {
     let site = node.state().site.as_slice();
     let alloc = room.outbox.alloc;
-    let mut event = match receive(alloc, me, site, outside, &mut room.buf, &mut room.gather) {
-        Ok(Came::Event(event)) => event,
+    match receive(alloc, me, site, outside, &mut room.buf, &mut room.gather) {
+        Ok(Came::Event(mut event, asker)) => {
+            tend_at(&event, outside);
+            take_turn(me, node, outside, &mut event, &asker, room)
+        }
+        Ok(Came::Errand(errand)) => {
+            match relay(alloc, me, site, errand, &mut room.remote, outside) {
+                Ok(()) => Ok(false),
+                Err(memory) => Err(ServeEnd::Memory(memory)),
+            }
+        }
         Ok(Came::Ignored(cause)) => {
             outside.ignored(&cause);
-            return Ok(false);
+            Ok(false)
         }
-        Ok(Came::Piece) => return Ok(false),
-        Err(Missed::Wire) => return Err(ServeEnd::WireFault),
-        Err(Missed::Memory(memory)) => return Err(ServeEnd::Memory(memory)),
-    };
-    tend_at(&event, outside);
-    let outbox = &mut room.outbox;
-    outbox.back.clear();
-    let taken = take_event(me, node, outside, &mut event, outbox);
-    drop(event);
-    let halts = match taken {
-        Err(cut) => return Err(end_of(cut)),
-        Ok(halts) => halts,
-    };
-    if let Err(cut) = take_back(me, node, outside, outbox) {
-        return Err(end_of(cut));
+        Ok(Came::Piece) => Ok(false),
+        Err(Missed::Wire) => Err(ServeEnd::WireFault),
+        Err(Missed::Memory(memory)) => Err(ServeEnd::Memory(memory)),
     }
-    Ok(halts)
 }
 
 // Turns until one stops, or there is none left.
@@ -151,10 +229,11 @@ fn turns_in<D: Disk, X: Outside>(
     requires room { 49_152 < length room.old.buf.items }
     ensures sound { IsSoundHost (content_of node.new) }
     ensures site { (content_of node.new).site ≡ (content_of node.old).site }
-    ensures run { (s : Plain) (here : Here) → Knows node.old s → here ≡ record { me = me; site = (content_of node.old).site }
-        → (acts : List Act) × (t : Turn) × (more : Begun) × AreHeard here room.old.gather acts
-        × Ran here acts (idle s) t more (X.told outside.old) (X.told outside.new)
-        × Ends node.old s (run_calls here (idle s) acts) result turns (stops here (idle s) acts) t more node.new }
+    ensures run { (s : Plain) (here : Here) (quiet : Option ℕ) → Knows node.old s → here ≡ record { me = me; site = (content_of node.old).site }
+        → IsIdle here (idle s room.old.remote quiet) → (acts : List Act) × (t : Turn) × (more : Begun) × AreHeard here room.old.gather acts
+        × Ran here acts (idle s room.old.remote quiet) t more (X.told outside.old) (X.told outside.new)
+        × Ends here node.old s (run_calls here (idle s room.old.remote quiet) acts) result turns (stops here (idle s room.old.remote quiet) acts) t more
+        node.new }
     ensures wire_fault { result ≡ ServeEnd.WireFault → Rose (X.receive_faults outside.old) (X.receive_faults outside.new) }
     ensures heard { result ≢ ServeEnd.WireFault → X.receive_faults outside.new ≡ X.receive_faults outside.old }
     ensures disk_fault { (which : Which) → result ≡ ServeEnd.DiskFault which → IsTrue (is_stopped node.new)
@@ -187,13 +266,15 @@ fn serve_lent<D: Disk, W: Wire, L: Launcher, P: Printer, O: Outlet, C: Clock, N:
     requires room { 49_152 < length room.old.buf.items }
     ensures sound { IsSoundHost (content_of node.new) }
     ensures site { (content_of node.new).site ≡ (content_of node.old).site }
-    ensures run { (s : Plain) (here : Here) → Knows node.old s → here ≡ record { me = me; site = (content_of node.old).site }
-        → (acts : List Act) × (t : Turn) × (more : Begun) × AreHeard here room.old.gather acts × Ran here acts (idle s) t more
+    ensures run { (s : Plain) (here : Here) (quiet : Option ℕ) → Knows node.old s → here ≡ record { me = me; site = (content_of node.old).site }
+        → IsIdle here (idle s room.old.remote quiet) → (acts : List Act) × (t : Turn) × (more : Begun) × AreHeard here room.old.gather acts
+        × Ran here acts (idle s room.old.remote quiet) t more
         (telling (W.traffic lent.old.wire.now) (L.asked lent.old.launcher.now) (P.prints lent.old.printer.now)
         (O.filings lent.old.outlet.now) (C.given lent.old.clock.now))
         (telling (W.traffic lent.new.wire.now) (L.asked lent.new.launcher.now) (P.prints lent.new.printer.now)
         (O.filings lent.new.outlet.now) (C.given lent.new.clock.now))
-        × Ends node.old s (run_calls here (idle s) acts) result turns (stops here (idle s) acts) t more node.new }
+        × Ends here node.old s (run_calls here (idle s room.old.remote quiet) acts) result turns (stops here (idle s room.old.remote quiet) acts) t more
+        node.new }
     ensures wire_fault { result ≡ ServeEnd.WireFault → Rose (W.receive_faults lent.old.wire.now) (W.receive_faults lent.new.wire.now) }
     ensures heard { result ≢ ServeEnd.WireFault → W.receive_faults lent.new.wire.now ≡ W.receive_faults lent.old.wire.now }
     ensures disk_fault { (which : Which) → result ≡ ServeEnd.DiskFault which → IsTrue (is_stopped node.new)
@@ -211,8 +292,9 @@ fn serve_lent<D: Disk, W: Wire, L: Launcher, P: Printer, O: Outlet, C: Clock, N:
 const ROOM: usize = 49_185;
 
 /// Serves a host: takes what comes, turn by turn, at most so many. A turn is a receive, the event
-/// that it brought with the starts after it, and the events that come back of what went out. Where
-/// nothing came, the launcher is tended first.
+/// that it brought with the starts after it, and the events that come back of what went out; or it
+/// is a receive and what it brought for a client, as another host is asked. Where nothing came, the
+/// launcher is tended first, and asks that no host answered in time are given up last.
 ///
 /// The node's state is that after the run over what was received, in which the pieces of a message
 /// are one with the last of them, and what the outside was asked
@@ -238,11 +320,12 @@ pub fn serve<D: Disk, W: Wire, L: Launcher, P: Printer, O: Outlet, C: Clock>(
     ensures sound { IsSoundHost (content_of node.new) }
     ensures site { (content_of node.new).site ≡ (content_of node.old).site }
     ensures run { IsTrue D.tells → (s : Plain) → Tells node.old s → (acts : List Act) × (t : Turn) × (more : Begun)
-        × AreHeard (here_of node.old) [] acts × Ran (here_of node.old) acts (idle s) t more
+        × AreHeard (here_of node.old) [] acts × Ran (here_of node.old) acts (begins s) t more
         (telling (W.traffic wire.old) (L.asked launcher.old) (P.prints printer.old) (O.filings outlet.old) (C.given clock.old))
         (telling (W.traffic wire.new) (L.asked launcher.new) (P.prints printer.new) (O.filings outlet.new) (C.given clock.new))
-        × Ends node.old s (run_calls (here_of node.old) (idle s) acts) result turns (stops (here_of node.old) (idle s) acts) t more node.new
-        × TellsThroughout (active_of node.old) (history_of node.old) (history_of node.new) (IsPassed (here_of node.old) (idle s) acts more.moments) }
+        × Ends (here_of node.old) node.old s (run_calls (here_of node.old) (begins s) acts) result turns (stops (here_of node.old) (begins s) acts) t more
+        node.new
+        × TellsThroughout (active_of node.old) (history_of node.old) (history_of node.new) (IsPassed (here_of node.old) (begins s) acts more.moments) }
     ensures wire_fault { result ≡ ServeEnd.WireFault → Rose (W.receive_faults wire.old) (W.receive_faults wire.new) }
     ensures heard { result ≢ ServeEnd.WireFault → W.receive_faults wire.new ≡ W.receive_faults wire.old }
     ensures disk_fault { (which : Which) → result ≡ ServeEnd.DiskFault which → IsTrue (is_stopped node.new)
@@ -271,11 +354,12 @@ pub fn serve_with_notes<D: Disk, W: Wire, L: Launcher, P: Printer, O: Outlet, C:
     ensures sound { IsSoundHost (content_of node.new) }
     ensures site { (content_of node.new).site ≡ (content_of node.old).site }
     ensures run { IsTrue D.tells → (s : Plain) → Tells node.old s → (acts : List Act) × (t : Turn) × (more : Begun)
-        × AreHeard (here_of node.old) [] acts × Ran (here_of node.old) acts (idle s) t more
+        × AreHeard (here_of node.old) [] acts × Ran (here_of node.old) acts (begins s) t more
         (telling (W.traffic wire.old) (L.asked launcher.old) (P.prints printer.old) (O.filings outlet.old) (C.given clock.old))
         (telling (W.traffic wire.new) (L.asked launcher.new) (P.prints printer.new) (O.filings outlet.new) (C.given clock.new))
-        × Ends node.old s (run_calls (here_of node.old) (idle s) acts) result turns (stops (here_of node.old) (idle s) acts) t more node.new
-        × TellsThroughout (active_of node.old) (history_of node.old) (history_of node.new) (IsPassed (here_of node.old) (idle s) acts more.moments) }
+        × Ends (here_of node.old) node.old s (run_calls (here_of node.old) (begins s) acts) result turns (stops (here_of node.old) (begins s) acts) t more
+        node.new
+        × TellsThroughout (active_of node.old) (history_of node.old) (history_of node.new) (IsPassed (here_of node.old) (begins s) acts more.moments) }
     ensures wire_fault { result ≡ ServeEnd.WireFault → Rose (W.receive_faults wire.old) (W.receive_faults wire.new) }
     ensures heard { result ≢ ServeEnd.WireFault → W.receive_faults wire.new ≡ W.receive_faults wire.old }
     ensures disk_fault { (which : Which) → result ≡ ServeEnd.DiskFault which → IsTrue (is_stopped node.new)
@@ -292,10 +376,12 @@ pub fn serve_with_notes<D: Disk, W: Wire, L: Launcher, P: Printer, O: Outlet, C:
         back: VecDeque::new(alloc),
     };
     let gather = Gather::new(alloc);
+    let remote = Remote::new(alloc);
     let mut room = Room {
         buf,
         gather,
         outbox,
+        remote,
     };
     let mut lent = Lent {
         wire,

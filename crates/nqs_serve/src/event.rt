@@ -1,11 +1,17 @@
 //! The event that a message is, and its moment.
 
-ghost use Rattle.std.specs.Prelude.{◌≡◌, [], get_or, IfOk};
-ghost use Rattle.nqs_serve.specs.Events.{command_of, are_of_site, event_of, at_moment};
+ghost use Rattle.std.specs.Prelude.{◌≡◌, [], drop, false, get_or, IfOk};
+ghost use Rattle.std.specs.Option.{is_some};
+ghost use Rattle.nqs_serve.specs.Errands.{errand_by, task_of};
+ghost use Rattle.nqs_serve.specs.Events.{Here, command_of, are_of_site, at_moment};
+ghost use Rattle.nqs_serve.specs.Gathers.{came_by};
 
-use nqs_base::{Bytes, Memory, Name};
+use crate::asker::Asker;
+use crate::came::Came;
+use crate::sort::IgnoreCause;
+use nqs_base::{Bytes, Items, Memory, Name};
 use nqs_language_acts::{qdel_command, qmgr_command, qstat_command, qsub_command_of};
-use nqs_types::{Body, Command, Event, Message, RequestId, Tool};
+use nqs_types::{Body, Command, Event, HostId, Message, RequestId, Tool};
 use std::alloc::Global;
 
 // The line of qmgr, which is its one word.
@@ -15,6 +21,16 @@ fn line_in(words: &[Bytes]) -> &[u8]
     match words.split_first() {
         Some((line, _)) => line.as_slice(),
         None => b"",
+    }
+}
+
+// The words behind the first.
+fn behind(words: &[Bytes]) -> &[Bytes]
+    ensures { result.now ≡ drop 1 words.now }
+{
+    match words.split_first() {
+        Some((_, more)) => more,
+        None => words,
     }
 }
 
@@ -34,7 +50,16 @@ fn command_of(
         Tool::Qdel => Ok(qdel_command(words)),
         Tool::Qmgr => Ok(qmgr_command(line_in(words))),
         Tool::Tick => Ok(Command::Tick),
+        Tool::Rqstat => qstat_command(alloc, behind(words)),
+        Tool::Rqdel => Ok(qdel_command(behind(words))),
     }
+}
+
+// It is no event.
+fn not_asked() -> Came
+    ensures { result ≡ Came.Ignored IgnoreCause.NotAsked }
+{
+    Came::Ignored(IgnoreCause::NotAsked)
 }
 
 /// The hosts of its requests are of the site.
@@ -78,9 +103,31 @@ fn ended(port: u16, job: (RequestId, u16), status: u8, out: Bytes, err: Bytes) -
     }
 }
 
-/// The event of a message, with the moment 0, if it is one.
-pub(crate) fn event_of(alloc: Global, message: Message) -> Result<Option<Event>, Memory>
-    ensures { IfOk result (λ event. event ≡ event_of message) }
+// What another host asks for one of its clients, and that host.
+fn asked_by(
+    alloc: Global,
+    host: HostId,
+    ask: (u64, Name, Tool),
+    words: Items<Bytes>,
+) -> Result<(Event, Asker), Memory>
+    ensures event { IfOk result (λ e. e.0 ≡ Event.Ask 0 0 ask.0 ask.1 (command_of ask.1 ask.2 words [])) }
+    ensures asker { IfOk result (λ e. e.1 ≡ record { host = host; number = ask.0; user = ask.1; tool = ask.2; words = words }) }
+{
+    let (number, user, tool) = ask;
+    let command = command_of(alloc, &user, tool, words.as_slice(), Bytes::new(alloc))?;
+    let asker = Asker {
+        host,
+        number,
+        user,
+        tool,
+        words,
+    };
+    Ok((asked(0, number, user, command), asker))
+}
+
+/// The event of a message, with the moment 0, and the host that asked for it; or that it is none.
+pub(crate) fn came_of(alloc: Global, message: Message) -> Result<Came, Memory>
+    ensures { (here : Here) → is_some (errand_by here message message.body) ≡ false → IfOk result (λ came. came ≡ came_by (task_of here message)) }
 {
     let Message { from, to, body } = message;
     match body {
@@ -94,7 +141,7 @@ pub(crate) fn event_of(alloc: Global, message: Message) -> Result<Option<Event>,
         } => {
             let words = words.as_slice();
             let command = command_of(alloc, &user, tool, words, script)?;
-            Ok(Some(asked(port, token, user, command)))
+            Ok(Came::Event(asked(port, token, user, command), None))
         }
         Body::Ended {
             port,
@@ -103,14 +150,24 @@ pub(crate) fn event_of(alloc: Global, message: Message) -> Result<Option<Event>,
             status,
             out,
             err,
-        } => Ok(Some(ended(port, (id, start), status, out, err))),
-        Body::Answer { .. } => Ok(None),
-        Body::EndedAck { .. } => Ok(None),
-        Body::Piece { .. } => Ok(None),
-        body => Ok(Some(Event::Arrived {
-            now: 0,
-            message: Message { from, to, body },
-        })),
+        } => Ok(Came::Event(ended(port, (id, start), status, out, err), None)),
+        Body::RemoteAsk {
+            number,
+            user,
+            tool,
+            words,
+        } => {
+            let (event, asker) = asked_by(alloc, from, (number, user, tool), words)?;
+            Ok(Came::Event(event, Some(asker)))
+        }
+        Body::Answer { .. } => Ok(not_asked()),
+        Body::EndedAck { .. } => Ok(not_asked()),
+        Body::Piece { .. } => Ok(not_asked()),
+        Body::RemoteAnswer { .. } => Ok(not_asked()),
+        body => {
+            let message = Message { from, to, body };
+            Ok(Came::Event(Event::Arrived { now: 0, message }, None))
+        }
     }
 }
 

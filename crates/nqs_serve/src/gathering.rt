@@ -1,45 +1,27 @@
 //! What a datagram comes to: it is sorted, or it is a piece of a message and is gathered. A message
 //! that its pieces made is sorted like any.
 
-ghost use Rattle.std.specs.Prelude.{◌≡◌, IfErr, IfOk, IsTrue, OnOk, Ok, None, Some, length};
-ghost use Rattle.nqs_rules.specs.Sane.{is_of_site, is_sane_event};
+ghost use Rattle.std.specs.Prelude.{◌≡◌, ◌≤◌, false, IfErr, IfOk, OnOk, Ok, None, Some, length};
+ghost use Rattle.nqs_rules.specs.Sane.{is_of_site};
 ghost use Rattle.nqs_rules.specs.Tests.{same_host};
 ghost use Rattle.nqs_outside.specs.Asked.{came};
 ghost use Rattle.nqs_pieces.specs.Gathering.{fed, key_of};
 ghost use Rattle.nqs_pieces.specs.Pieces.{IsPiece};
 ghost use Rattle.nqs_packets.specs.Messages.{in_datagram};
+ghost use Rattle.nqs_packets.specs.Reading.{is_fault_of_memory};
 ghost use Rattle.nqs_packets.specs.Values.{MaySend};
+ghost use Rattle.nqs_records.specs.Values.{IsHost};
 ghost use Rattle.nqs_serve.specs.Events.{Here};
-ghost use Rattle.nqs_serve.specs.Gathers.{came_as, event_fed, event_keyed, event_made, heard, heard_by, heard_said, is_keyed, piece_in, taken_by, IfTaken};
-ghost use Rattle.nqs_serve.specs.Sends.{is_right_event};
-ghost use Rattle.nqs_serve.specs.Sorted.{taken_of, IfEvent};
+ghost use Rattle.nqs_serve.specs.Gathers.{brought_fed, brought_keyed, brought_made, heard, heard_by, heard_said, is_keyed, piece_in, taken_by, IsRightCame};
+ghost use Rattle.nqs_serve.specs.declared.sort.IgnoreCause.{IgnoreCause as Cause};
 
-use crate::sort::{IgnoreCause, Sorted, ignored, sort_read, unread};
+use crate::came::Came;
+use crate::sort::{IgnoreCause, Sorted, take_read, unread};
 use nqs_base::{Memory, Name};
-use nqs_packets::{kind_of, number_in, read_message, what_is_read_is_in_form};
+use nqs_packets::{PacketFault, kind_of, number_in, read_message, what_is_read_is_in_form};
 use nqs_pieces::{Fed, Gather, MessageKey, Piece};
-use nqs_types::{Body, Event, HostId, Message};
+use nqs_types::{Body, HostId, Message};
 use std::alloc::Global;
-
-/// What a datagram came to.
-#[derive(Drop)]
-pub(crate) enum Came {
-    /// It is an event, or the message is of which it was the last piece.
-    Event(Event),
-    Ignored(IgnoreCause),
-    /// It is a piece of a message of which others lack.
-    Piece,
-}
-
-// By how it is sorted.
-fn came_as(sorted: Sorted) -> Came
-    ensures { result ≡ came_as sorted }
-{
-    match sorted {
-        Sorted::Event(event) => Came::Event(event),
-        Sorted::Ignored(cause) => Came::Ignored(cause),
-    }
-}
 
 /// The longest datagram.
 const DATAGRAM: usize = 49_152;
@@ -56,43 +38,56 @@ fn is_keyed(key: &MessageKey, message: &Message) -> bool
         && number_in(&message.body) == key.number
 }
 
+// By what is no message.
+fn passed_over(fault: PacketFault) -> Result<Came, Memory>
+    ensures { IfOk result (λ c. (c ≡ Came.Ignored (Cause.Unread fault)) × (is_fault_of_memory fault ≡ false)) }
+{
+    match unread(fault) {
+        Ok(Sorted::Ignored(cause)) => Ok(Came::Ignored(cause)),
+        Ok(Sorted::Event(_)) => unreachable!(),
+        Err(memory) => Err(memory),
+    }
+}
+
 // By the message that pieces made.
-fn sort_keyed(
+fn take_keyed(
     alloc: Global,
     site: &[Name],
     me: HostId,
     key: &MessageKey,
     message: Message,
-) -> Result<Sorted, Memory>
-    requires { MaySend message }
-    ensures event { IfOk result (λ s. taken_of s ≡ event_keyed (record { me = me; site = site.now }) key.now (Ok message)) }
-    ensures sane { IfOk result (λ s. IfEvent s (λ e. IsTrue (is_sane_event (length site.now) e))) }
-    ensures right { IfOk result (λ s. IfEvent s (λ e. IsTrue (is_right_event (length site.now) e))) }
+) -> Result<Came, Memory>
+    requires may { MaySend message }
+    requires host { IsHost me }
+    requires few { length site.now ≤ 16 }
+    ensures event { IfOk result (λ c. taken_by c ≡ brought_keyed (record { me = me; site = site.now }) key.now (Ok message)) }
+    ensures right { IfOk result (IsRightCame (length site.now) me) }
 {
     if !is_keyed(key, &message) {
-        return Ok(ignored(IgnoreCause::NotAsked));
+        return Ok(Came::Ignored(IgnoreCause::NotAsked));
     }
-    sort_read(alloc, site, me, message)
+    take_read(alloc, site, me, message)
 }
 
 // By the bytes that pieces made.
-fn sort_made(
+fn take_made(
     alloc: Global,
     site: &[Name],
     me: HostId,
     key: &MessageKey,
     bytes: &[u8],
-) -> Result<Sorted, Memory>
-    ensures event { IfOk result (λ s. taken_of s ≡ event_made (record { me = me; site = site.now }) key.now bytes.now) }
-    ensures sane { IfOk result (λ s. IfEvent s (λ e. IsTrue (is_sane_event (length site.now) e))) }
-    ensures right { IfOk result (λ s. IfEvent s (λ e. IsTrue (is_right_event (length site.now) e))) }
+) -> Result<Came, Memory>
+    requires host { IsHost me }
+    requires few { length site.now ≤ 16 }
+    ensures event { IfOk result (λ c. taken_by c ≡ brought_made (record { me = me; site = site.now }) key.now bytes.now) }
+    ensures right { IfOk result (IsRightCame (length site.now) me) }
 {
     if bytes.len() > MESSAGE {
-        return Ok(ignored(IgnoreCause::TooLong));
+        return Ok(Came::Ignored(IgnoreCause::TooLong));
     }
     match read_message(alloc, bytes) {
-        Err(fault) => unread(fault),
-        Ok(message) => sort_keyed(alloc, site, me, key, message),
+        Err(fault) => passed_over(fault),
+        Ok(message) => take_keyed(alloc, site, me, key, message),
     }
 }
 
@@ -104,21 +99,19 @@ fn feed(
     piece: Piece,
     gather: &mut Gather,
 ) -> Result<Came, Memory>
-    requires { IsPiece piece }
-    ensures event { IfOk result (λ came. taken_by came ≡ event_fed (record { me = me; site = site.now }) (key_of piece) (fed piece gather.old).whole) }
+    requires form { IsPiece piece }
+    requires host { IsHost me }
+    requires few { length site.now ≤ 16 }
+    ensures event { IfOk result (λ came. taken_by came ≡ brought_fed (record { me = me; site = site.now }) (key_of piece) (fed piece gather.old).whole) }
     ensures gathered { OnOk result (gather.new ≡ (fed piece gather.old).after) }
-    ensures sane { IfOk result (λ came. IfTaken came (λ e. IsTrue (is_sane_event (length site.now) e))) }
-    ensures right { IfOk result (λ came. IfTaken came (λ e. IsTrue (is_right_event (length site.now) e))) }
+    ensures right { IfOk result (IsRightCame (length site.now) me) }
 {
     let key = MessageKey::of(&piece);
     let mut whole = Vec::new(alloc);
     match gather.feed(piece, &mut whole) {
         Err(memory) => Err(memory),
         Ok(Fed::NotYet) => Ok(Came::Piece),
-        Ok(Fed::Whole) => match sort_made(alloc, site, me, &key, whole.as_slice()) {
-            Err(memory) => Err(memory),
-            Ok(sorted) => Ok(came_as(sorted)),
-        },
+        Ok(Fed::Whole) => take_made(alloc, site, me, &key, whole.as_slice()),
     }
 }
 
@@ -144,13 +137,14 @@ fn take_piece(
     piece: Piece,
     gather: &mut Gather,
 ) -> Result<Came, Memory>
-    requires { IsPiece piece }
+    requires form { IsPiece piece }
+    requires host { IsHost me }
+    requires few { length site.now ≤ 16 }
     ensures event { IfOk result (λ came. taken_by came
-        ≡ (heard_by (record { me = me; site = site.now }) gather.old (in_datagram piece) (Some piece)).event) }
+        ≡ (heard_by (record { me = me; site = site.now }) gather.old (in_datagram piece) (Some piece)).brought) }
     ensures gathered { OnOk result (gather.new
         ≡ (heard_by (record { me = me; site = site.now }) gather.old (in_datagram piece) (Some piece)).gathered) }
-    ensures sane { IfOk result (λ came. IfTaken came (λ e. IsTrue (is_sane_event (length site.now) e))) }
-    ensures right { IfOk result (λ came. IfTaken came (λ e. IsTrue (is_right_event (length site.now) e))) }
+    ensures right { IfOk result (IsRightCame (length site.now) me) }
 {
     if !is_here(me, &piece) {
         return Ok(Came::Ignored(IgnoreCause::NotHere));
@@ -199,17 +193,15 @@ fn take_message(
 ) -> Result<Came, Memory>
     requires may { MaySend message }
     requires form { (piece : Piece) → message ≡ in_datagram piece → IsPiece piece }
-    ensures event { IfOk result (λ came. taken_by came ≡ (heard_said (record { me = me; site = site.now }) gather.old (Ok message)).event) }
+    requires host { IsHost me }
+    requires few { length site.now ≤ 16 }
+    ensures event { IfOk result (λ came. taken_by came ≡ (heard_said (record { me = me; site = site.now }) gather.old (Ok message)).brought) }
     ensures gathered { OnOk result (gather.new ≡ (heard_said (record { me = me; site = site.now }) gather.old (Ok message)).gathered) }
-    ensures sane { IfOk result (λ came. IfTaken came (λ e. IsTrue (is_sane_event (length site.now) e))) }
-    ensures right { IfOk result (λ came. IfTaken came (λ e. IsTrue (is_right_event (length site.now) e))) }
+    ensures right { IfOk result (IsRightCame (length site.now) me) }
 {
     match piece_in(message) {
         Ok(piece) => take_piece(alloc, site, me, piece, gather),
-        Err(message) => match sort_read(alloc, site, me, message) {
-            Err(memory) => Err(memory),
-            Ok(sorted) => Ok(came_as(sorted)),
-        },
+        Err(message) => take_read(alloc, site, me, message),
     }
 }
 
@@ -222,20 +214,18 @@ pub(crate) fn hear(
     bytes: &[u8],
     gather: &mut Gather,
 ) -> Result<Came, Memory>
-    ensures event { IfOk result (λ c. taken_by c ≡ (heard (record { me = me; site = site.now }) gather.old (came bytes.now)).event) }
+    requires host { IsHost me }
+    requires few { length site.now ≤ 16 }
+    ensures event { IfOk result (λ c. taken_by c ≡ (heard (record { me = me; site = site.now }) gather.old (came bytes.now)).brought) }
     ensures gathered { OnOk result (gather.new ≡ (heard (record { me = me; site = site.now }) gather.old (came bytes.now)).gathered) }
-    ensures sane { IfOk result (λ c. IfTaken c (λ e. IsTrue (is_sane_event (length site.now) e))) }
-    ensures right { IfOk result (λ c. IfTaken c (λ e. IsTrue (is_right_event (length site.now) e))) }
+    ensures right { IfOk result (IsRightCame (length site.now) me) }
 {
     if bytes.len() > DATAGRAM {
         return Ok(Came::Ignored(IgnoreCause::TooLong));
     }
     what_is_read_is_in_form();
     match read_message(alloc, bytes) {
-        Err(fault) => match unread(fault) {
-            Err(memory) => Err(memory),
-            Ok(sorted) => Ok(came_as(sorted)),
-        },
+        Err(fault) => passed_over(fault),
         Ok(message) => take_message(alloc, site, me, message, gather),
     }
 }

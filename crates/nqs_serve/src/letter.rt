@@ -1,19 +1,20 @@
 //! What is sent: the datagrams of outputs are spelled before anything goes out. A message that is
 //! longer than a datagram goes out in pieces.
 
-ghost use Rattle.std.specs.Prelude.{◌≡◌, ◌≤◌, IfOk, OnOk, IsTrue, take, length};
+ghost use Rattle.std.specs.Prelude.{◌≡◌, ◌≤◌, ℕ, List, IfOk, OnOk, IsTrue, None, Some, take, length};
 ghost use Rattle.nqs_codec.specs.Takes.{IsLong};
 ghost use Rattle.nqs_records.specs.Values.{IsHost};
 ghost use Rattle.nqs_node.specs.Reading.{carries_short, sends_short, AreShort};
 ghost use Rattle.nqs_packets.specs.Letters.{has_short_words};
 ghost use Rattle.nqs_packets.specs.Values.{MaySend};
-ghost use Rattle.nqs_serve.specs.Sends.{is_right_id, is_right_message, is_right_output, AreRight};
+ghost use Rattle.nqs_serve.specs.Sends.{is_right_id, is_right_message, is_right_output, AreRight, IsRightAsker};
 ghost use Rattle.nqs_serve.specs.Events.{Here};
-ghost use Rattle.nqs_serve.specs.Letters.{is_answered, cut_text, posted, letter_of, AreReady};
+ghost use Rattle.nqs_serve.specs.Letters.{answer_letter, answer_to_host, is_answered, cut_text, posted, letter_of, AreReady};
 ghost use Rattle.nqs_types.specs.declared.event.Output.TheVariants as out;
 ghost use Rattle.nqs_types.specs.declared.message.Body.TheVariants as body;
 ghost use Rattle.nqs_rules.specs.Transcript.{reply_text};
 
+use crate::asker::{Asker, answer_to_host};
 use crate::said::may_be_sent;
 use crate::text::cut_text;
 use nqs_base::{Bytes, Items, Memory, Name};
@@ -30,8 +31,8 @@ pub(crate) struct Letter {
     pub(crate) datagrams: Items<Bytes>,
 }
 
-// The datagrams of a message.
-fn post(alloc: Global, to: Address, message: &Message) -> Result<Option<Letter>, Memory>
+/// The datagrams of a message.
+pub(crate) fn post(alloc: Global, to: Address, message: &Message) -> Result<Option<Letter>, Memory>
     requires may { MaySend message.now }
     requires short { IsTrue (has_short_words message.now.body) }
     ensures { IfOk result (λ l. l ≡ Some (posted to message.now)) }
@@ -74,30 +75,65 @@ fn text_of(alloc: Global, site: &[Name], reply: &Reply) -> Result<Bytes, Memory>
     Ok(Bytes::from_vec(text))
 }
 
-// The answer to a client, who is at this port and waits for this token.
-fn answer(
+/// The answer of this text to a client, who is at this port and waits for this token.
+pub(crate) fn answer_client(
     alloc: Global,
     me: HostId,
-    site: &[Name],
-    asker: (u16, u64),
-    reply: &Reply,
+    client: (u16, u64),
+    ok: bool,
+    text: Bytes,
 ) -> Result<Option<Letter>, Memory>
-    requires { IsHost me }
-    ensures { IfOk result (λ l. l ≡ letter_of (record { me = me; site = site.now }) (out.Reply asker.0 asker.1 reply.now)) }
+    requires host { IsHost me }
+    requires long { IsLong text }
+    requires short { length text ≤ 48006 }
+    ensures { (site : List (List ℕ)) → IfOk result (λ l. l ≡ Some (answer_letter (record { me = me; site = site }) None client.0 client.1 ok text)) }
 {
-    let (port, token) = asker;
-    let text = text_of(alloc, site, reply)?;
-    let body = Body::Answer {
-        token,
-        ok: is_answered(reply),
-        text,
-    };
+    let (port, token) = client;
+    let body = Body::Answer { token, ok, text };
     let message = Message {
         from: me,
         to: me,
         body,
     };
     post(alloc, Address::Client(port), &message)
+}
+
+// The same to the host that asked for one of its clients.
+fn answer_asker(
+    alloc: Global,
+    me: HostId,
+    asker: &Asker,
+    ok: bool,
+    text: Bytes,
+) -> Result<Option<Letter>, Memory>
+    requires host { IsHost me }
+    requires asker { IsRightAsker me (Some asker.now) }
+    requires long { IsLong text }
+    requires short { length text ≤ 48006 }
+    ensures { IfOk result (λ l. l ≡ Some (posted (Address.Host asker.now.host) (answer_to_host me asker.now ok text))) }
+{
+    let message = answer_to_host(me, asker, ok, text)?;
+    post(alloc, Address::Host(asker.host), &message)
+}
+
+// The answer to who asked.
+fn answer(
+    alloc: Global,
+    me: HostId,
+    site: &[Name],
+    asker: &Option<Asker>,
+    client: (u16, u64),
+    reply: &Reply,
+) -> Result<Option<Letter>, Memory>
+    requires host { IsHost me }
+    requires asker { IsRightAsker me asker.now }
+    ensures { IfOk result (λ l. l ≡ letter_of (record { me = me; site = site.now }) asker.now (out.Reply client.0 client.1 reply.now)) }
+{
+    let text = text_of(alloc, site, reply)?;
+    match asker {
+        None => answer_client(alloc, me, client, is_answered(reply), text),
+        Some(asker) => answer_asker(alloc, me, asker, is_answered(reply), text),
+    }
 }
 
 // The acknowledgement to a shepherd.
@@ -120,20 +156,24 @@ fn acknowledgement(
     post(alloc, Address::Client(port), &message)
 }
 
-// The datagrams of an output, if it has any.
-fn letter_of(
+/// The datagrams of an output of what this host asked for, or none, if it has any.
+pub(crate) fn letter_of(
     alloc: Global,
     me: HostId,
     site: &[Name],
+    asker: &Option<Asker>,
     output: &Output,
 ) -> Result<Option<Letter>, Memory>
     requires host { IsHost me }
+    requires asker { IsRightAsker me asker.now }
     requires right { IsTrue (is_right_output 16 output.now) }
     requires short { IsTrue (sends_short output.now) }
-    ensures { IfOk result (λ l. l ≡ letter_of (record { me = me; site = site.now }) output.now) }
+    ensures { IfOk result (λ l. l ≡ letter_of (record { me = me; site = site.now }) asker.now output.now) }
 {
     match output {
-        Output::Reply { port, token, reply } => answer(alloc, me, site, (*port, *token), reply),
+        Output::Reply { port, token, reply } => {
+            answer(alloc, me, site, asker, (*port, *token), reply)
+        }
         Output::Send(message) => word(alloc, message),
         Output::Ack { port, id, start } => acknowledgement(alloc, me, *port, *id, *start),
         Output::Launch { .. } => Ok(None),
@@ -152,19 +192,21 @@ pub(crate) fn add_letters(
     alloc: Global,
     me: HostId,
     site: &[Name],
+    asker: &Option<Asker>,
     outputs: &[Output],
     letters: &mut Vec<Option<Letter>>,
 ) -> Result<(), Memory>
     requires host { IsHost me }
+    requires asker { IsRightAsker me asker.now }
     requires right { AreRight 16 outputs.now }
     requires short { AreShort outputs.now }
     requires fits { length letters.old.items ≤ length outputs.now }
     ensures many { OnOk result (length letters.new.items ≡ length outputs.now) }
-    ensures spelled { AreReady (record { me = me; site = site.now }) (take (length letters.old.items) outputs.now) letters.old.items
-        → OnOk result (AreReady (record { me = me; site = site.now }) outputs.now letters.new.items) }
+    ensures spelled { AreReady (record { me = me; site = site.now }) asker.now (take (length letters.old.items) outputs.now) letters.old.items
+        → OnOk result (AreReady (record { me = me; site = site.now }) asker.now outputs.now letters.new.items) }
 {
     for place in letters.len()..outputs.len() {
-        letters.push(letter_of(alloc, me, site, &outputs[place])?)?;
+        letters.push(letter_of(alloc, me, site, asker, &outputs[place])?)?;
     }
     Ok(())
 }

@@ -1,16 +1,16 @@
-//! A receive, and the event that it brought.
+//! A receive, and what it brought.
 
-ghost use Rattle.std.specs.Prelude.{◌≡◌, ◌<◌, ◌∷◌, [], IfOk, IsErrOf, IsTrue, length};
+ghost use Rattle.std.specs.Prelude.{◌≡◌, ◌<◌, ◌≤◌, ◌∷◌, [], IfOk, IsErrOf, None, length};
 ghost use Rattle.nqs_base.specs.Want.{want};
 ghost use Rattle.nqs_outside.specs.Causes.{Rose};
 ghost use Rattle.nqs_outside.specs.Asked.{Arrival, quiet, inbound};
-ghost use Rattle.nqs_rules.specs.Sane.{is_sane_event};
+ghost use Rattle.nqs_records.specs.Values.{IsHost};
 ghost use Rattle.nqs_serve.specs.Events.{Here};
-ghost use Rattle.nqs_serve.specs.Gathers.{heard, taken_by, IfTaken};
-ghost use Rattle.nqs_serve.specs.Sends.{is_right_event};
+ghost use Rattle.nqs_serve.specs.Gathers.{heard, taken_by, IsRightCame};
 ghost use Rattle.nqs_serve.specs.Tellings.{AddsNone, Passes};
 
-use crate::gathering::{Came, hear};
+use crate::came::Came;
+use crate::gathering::hear;
 use crate::outside::Outside;
 use nqs_base::{Memory, Name};
 use nqs_outside::Received;
@@ -29,15 +29,16 @@ pub(crate) enum Missed {
 // Nothing came: what came in part is forgotten.
 #[tactic(auto, unfolding(crate::specs::Gathers::heard))]
 fn forget(gather: &mut Gather) -> Came
-    ensures event { (here : Here) → taken_by result ≡ (heard here gather.old quiet).event }
+    ensures event { (here : Here) → taken_by result ≡ (heard here gather.old quiet).brought }
     ensures gathered { (here : Here) → gather.new ≡ (heard here gather.old quiet).gathered }
-    ensures tick { result ≡ Came.Event (Event.Tick 0) }
+    ensures tick { result ≡ Came.Event (Event.Tick 0) None }
 {
     gather.clear();
-    Came::Event(Event::Tick { now: 0 })
+    Came::Event(Event::Tick { now: 0 }, None)
 }
 
-/// What a receive brought: an event with the moment 0, what is ignored, or a piece of a message.
+/// What a receive brought: an event with the moment 0, an errand of a client, what is ignored, or a
+/// piece of a message.
 /// The buffer has room for one byte more than the longest datagram.
 pub(crate) fn receive<X: Outside>(
     alloc: Global,
@@ -48,11 +49,12 @@ pub(crate) fn receive<X: Outside>(
     gather: &mut Gather,
 ) -> Result<Came, Missed>
     requires room { 49_152 < length buf.old }
-    ensures came { IfOk result (λ c. (arrival : Arrival) × (taken_by c ≡ (heard (record { me = me; site = site.now }) gather.old arrival).event)
+    requires host { IsHost me }
+    requires few { length site.now ≤ 16 }
+    ensures came { IfOk result (λ c. (arrival : Arrival) × (taken_by c ≡ (heard (record { me = me; site = site.now }) gather.old arrival).brought)
         × (gather.new ≡ (heard (record { me = me; site = site.now }) gather.old arrival).gathered)
         × Passes (X.told outside.old) (X.told outside.new) (inbound arrival ∷ [])) }
-    ensures sane { IfOk result (λ c. IfTaken c (λ e. IsTrue (is_sane_event (length site.now) e))) }
-    ensures right { IfOk result (λ c. IfTaken c (λ e. IsTrue (is_right_event (length site.now) e))) }
+    ensures right { IfOk result (IsRightCame (length site.now) me) }
     ensures cut { IsErrOf result (Missed.Memory want) → (arrival : Arrival) × Passes (X.told outside.old) (X.told outside.new) (inbound arrival ∷ []) }
     ensures lost { IsErrOf result Missed.Wire → AddsNone (X.told outside.old) (X.told outside.new)
         × Rose (X.receive_faults outside.old) (X.receive_faults outside.new) }

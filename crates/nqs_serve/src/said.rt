@@ -5,13 +5,14 @@
 
 ghost use Rattle.std.specs.Prelude.{IsTrue, nat_le};
 ghost use Rattle.nqs_node.specs.Reading.{carries_short};
-ghost use Rattle.nqs_packets.specs.Letters.{has_short_words};
+ghost use Rattle.nqs_packets.specs.Letters.{has_short_words, IsRemote};
 ghost use Rattle.nqs_packets.specs.Messages.{IsTypedJob, IsSaid};
 ghost use Rattle.nqs_packets.specs.Values.{IsNumber, MaySend};
-ghost use Rattle.nqs_serve.specs.Sends.{has_number, is_right_message};
+ghost use Rattle.nqs_serve.specs.Sends.{has_number, is_right_message, IsRightAsk};
+ghost use Rattle.nqs_records.specs.Values.{IsHost};
 
 use nqs_base::name_stands;
-use nqs_packets::what_is_sane_may_be_sent;
+use nqs_packets::{what_is_remote_may_go, what_is_sane_may_be_sent};
 use nqs_records::{byte_stands, maybe_name_stands, maybe_number_stands};
 use nqs_types::{Body, Job, Message};
 
@@ -62,6 +63,8 @@ fn body_is_typed(body: &Body)
         Body::Ended { .. } => unreachable!(),
         Body::EndedAck { .. } => unreachable!(),
         Body::Piece { .. } => unreachable!(),
+        Body::RemoteAsk { .. } => unreachable!(),
+        Body::RemoteAnswer { .. } => unreachable!(),
     }
 }
 
@@ -74,4 +77,27 @@ pub(crate) fn may_be_sent(message: &Message)
 {
     what_is_sane_may_be_sent();
     body_is_typed(&message.body);
+}
+
+fn ask_is_typed(body: &Body)
+    requires { IsRightAsk body.now }
+    ensures { IsRemote body.now }
+{
+    let Body::RemoteAsk { number, user, .. } = body else {
+        unreachable!();
+    };
+    number_is_typed(*number);
+    name_stands(user);
+}
+
+/// What a host asks of another may be sent.
+pub(crate) fn ask_may_be_sent(message: &Message)
+    requires from { IsHost message.now.from }
+    requires to { IsHost message.now.to }
+    requires ask { IsRightAsk message.now.body }
+    ensures may { MaySend message.now }
+    ensures short { IsTrue (has_short_words message.now.body) }
+{
+    what_is_remote_may_go();
+    ask_is_typed(&message.body);
 }

@@ -1,16 +1,21 @@
 //! How a datagram is sorted: as an event, or as ignored, by the first cause.
 
-ghost use Rattle.std.specs.Prelude.{◌≡◌, ℕ, List, false, IfOk, IsTrue, length};
+ghost use Rattle.std.specs.Prelude.{◌≡◌, ◌≤◌, ℕ, List, false, IfOk, IsTrue, length};
 ghost use Rattle.nqs_rules.specs.Sane.{is_sane_event};
 ghost use Rattle.nqs_outside.specs.Asked.{came};
 ghost use Rattle.nqs_packets.specs.Reading.{is_fault_of_memory};
 ghost use Rattle.nqs_packets.specs.Values.{MaySend};
 ghost use Rattle.nqs_packets.specs.declared.fault.PacketFault.{PacketFault as Fault};
+ghost use Rattle.nqs_records.specs.Values.{IsHost};
+ghost use Rattle.nqs_serve.specs.Errands.{task_of, IsRightErrand};
 ghost use Rattle.nqs_serve.specs.Events.{Here, event_of, event_in};
+ghost use Rattle.nqs_serve.specs.Gathers.{came_by, message_came, IfErrand, IsRightCame};
 ghost use Rattle.nqs_serve.specs.Sends.{is_right_event};
 ghost use Rattle.nqs_serve.specs.Sorted.{is_here, is_known, event_sorted, message_sorted, HasFault, IsSorted, taken_of, IfEvent};
 
-use crate::event::{are_of_site, event_of};
+use crate::came::{Came, sorted_as};
+use crate::errand::{errand_of, is_errand};
+use crate::event::{are_of_site, came_of};
 use nqs_base::{Memory, Name};
 use nqs_language_acts::laws::{edits_are_sane, lists_and_deletions_are_sane, submissions_are_sane};
 use nqs_packets::{PacketFault, read_message};
@@ -29,7 +34,7 @@ pub enum IgnoreCause {
     /// It comes from no host of the site, or names a request of none.
     Stranger,
     /// It is said to a client or a shepherd, an answer or an acknowledgement of the end of a job;
-    /// or it is a piece of a message.
+    /// it is a piece of a message; or another host is asked by it, or answers.
     NotAsked,
 }
 
@@ -85,13 +90,15 @@ fn is_known(site: &[Name], message: &Message) -> bool
 }
 
 // By the event of a message that is for this host.
-fn sort_event(alloc: Global, message: Message) -> Result<Sorted, Memory>
-    ensures { IfOk result (λ s. s ≡ event_sorted (event_of message)) }
+fn sort_event(alloc: Global, site: &[Name], me: HostId, message: Message) -> Result<Sorted, Memory>
+    ensures { IfOk result (λ s. s ≡ event_sorted (event_of (record { me = me; site = site.now }) message)) }
 {
-    match event_of(alloc, message) {
+    if is_errand(me, site, &message) {
+        return Ok(ignored(IgnoreCause::NotAsked));
+    }
+    match came_of(alloc, message) {
+        Ok(came) => Ok(sorted_as(came)),
         Err(memory) => Err(memory),
-        Ok(None) => Ok(ignored(IgnoreCause::NotAsked)),
-        Ok(Some(event)) => Ok(Sorted::Event(event)),
     }
 }
 
@@ -109,17 +116,12 @@ fn sort_message(
     } else if !is_known(site, &message) {
         Ok(ignored(IgnoreCause::Stranger))
     } else {
-        sort_event(alloc, message)
+        sort_event(alloc, site, me, message)
     }
 }
 
-/// Sorts a message that was read, which this host of a site got. An event has the moment 0.
-pub(crate) fn sort_read(
-    alloc: Global,
-    site: &[Name],
-    me: HostId,
-    message: Message,
-) -> Result<Sorted, Memory>
+// Sorts a message that was read, which this host of a site got. An event has the moment 0.
+fn sort_read(alloc: Global, site: &[Name], me: HostId, message: Message) -> Result<Sorted, Memory>
     requires { MaySend message }
     ensures sorted { IfOk result (λ s. s ≡ message_sorted (record { me = me; site = site.now }) message) }
     ensures sane { IfOk result (λ s. IfEvent s (λ e. IsTrue (is_sane_event (length site.now) e))) }
@@ -129,6 +131,55 @@ pub(crate) fn sort_read(
     edits_are_sane();
     lists_and_deletions_are_sane();
     sort_message(alloc, site, me, message)
+}
+
+// By a message that is for this host.
+fn take_said(alloc: Global, site: &[Name], me: HostId, message: Message) -> Result<Came, Memory>
+    requires host { IsHost me }
+    requires few { length site.now ≤ 16 }
+    ensures came { IfOk result (λ c. c ≡ came_by (task_of (record { me = me; site = site.now }) message)) }
+    ensures right { IfOk result (λ c. IfErrand c IsRightErrand) }
+{
+    if is_errand(me, site, &message) {
+        return Ok(Came::Errand(errand_of(me, site, message)));
+    }
+    came_of(alloc, message)
+}
+
+// By a message.
+fn take_sorted(alloc: Global, site: &[Name], me: HostId, message: Message) -> Result<Came, Memory>
+    requires host { IsHost me }
+    requires few { length site.now ≤ 16 }
+    ensures came { IfOk result (λ c. c ≡ message_came (record { me = me; site = site.now }) message) }
+    ensures right { IfOk result (λ c. IfErrand c IsRightErrand) }
+{
+    if !is_here(me, &message) {
+        Ok(Came::Ignored(IgnoreCause::NotHere))
+    } else if !is_known(site, &message) {
+        Ok(Came::Ignored(IgnoreCause::Stranger))
+    } else {
+        take_said(alloc, site, me, message)
+    }
+}
+
+/// What a message comes to that was read, and that this host of a site got. An event has the moment
+/// 0. A piece comes to nothing here.
+pub(crate) fn take_read(
+    alloc: Global,
+    site: &[Name],
+    me: HostId,
+    message: Message,
+) -> Result<Came, Memory>
+    requires may { MaySend message }
+    requires host { IsHost me }
+    requires few { length site.now ≤ 16 }
+    ensures came { IfOk result (λ c. c ≡ message_came (record { me = me; site = site.now }) message) }
+    ensures right { IfOk result (IsRightCame (length site.now) me) }
+{
+    submissions_are_sane();
+    edits_are_sane();
+    lists_and_deletions_are_sane();
+    take_sorted(alloc, site, me, message)
 }
 
 /// Sorts a message that this host of a site got, as the bytes of a datagram or of its pieces. The

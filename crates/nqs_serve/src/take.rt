@@ -27,12 +27,15 @@ ghost use Rattle.nqs_serve.specs.Keeping.{Keeps, KeepsTill, KeptBehind};
 ghost use Rattle.nqs_serve.specs.Leaves.{Cuts, Leaves, TakesStep};
 ghost use Rattle.nqs_serve.specs.Letters.{AreReady};
 ghost use Rattle.nqs_serve.specs.Steps.{said, after_event, outputs, calls};
-ghost use Rattle.nqs_serve.specs.Runs.{Act, took, Outcome, Turn, turn, idle, outputs_in, brought_back, event_back, arrivals, run_calls, Carried, Grew, Ran};
+ghost use Rattle.nqs_serve.specs.Runs.{Act, took, Outcome, Turn, turn, idle, outputs_in, brought_back, waits_back, arrivals, run_calls, Carried, Grew, Ran};
 ghost use Rattle.nqs_serve.specs.Runs.{Begun, none_begun, begun};
 ghost use Rattle.nqs_serve.specs.Nodes.{Knows, IsAt};
-ghost use Rattle.nqs_serve.specs.Sends.{is_right_event, AreRight};
+ghost use Rattle.nqs_serve.specs.Sends.{is_right_event, AreRight, IsRightAsker};
+ghost use Rattle.nqs_remote.specs.Remote.{Asks};
+ghost use Rattle.std.specs.declared.option.Option.{Option};
 ghost use Rattle.nqs_serve.specs.Ends.{IsKeptWithin, IsCutAt, UnlessMemory, Broke, IsBroken};
 
+use crate::asker::Asker;
 use crate::carry::carry;
 use crate::comeback::{Comeback, event_back};
 use crate::cut::Cut;
@@ -119,14 +122,20 @@ fn start<D: Disk>(
 }
 
 // Spells what the last call added, and makes room for what may come back of all of it.
-fn spell(me: HostId, site: &[Name], outbox: &mut Outbox) -> Result<(), Memory>
+fn spell(
+    me: HostId,
+    site: &[Name],
+    asker: &Option<Asker>,
+    outbox: &mut Outbox,
+) -> Result<(), Memory>
     requires host { IsHost me }
+    requires asker { IsRightAsker me asker.now }
     requires right { AreRight 16 outbox.old.out.items }
     requires short { AreShort outbox.old.out.items }
     requires fits { length outbox.old.letters.items ≤ length outbox.old.out.items }
     ensures many { OnOk result (length outbox.new.letters.items ≡ length outbox.new.out.items) }
-    ensures spelled { AreReady (record { me = me; site = site.now }) (take (length outbox.old.letters.items) outbox.old.out.items) outbox.old.letters.items
-        → OnOk result (AreReady (record { me = me; site = site.now }) outbox.new.out.items outbox.new.letters.items) }
+    ensures spelled { AreReady (record { me = me; site = site.now }) asker.now (take (length outbox.old.letters.items) outbox.old.out.items) outbox.old.letters.items
+        → OnOk result (AreReady (record { me = me; site = site.now }) asker.now outbox.new.out.items outbox.new.letters.items) }
     ensures room { OnOk result (length outbox.new.back.items + length outbox.new.out.items ≤ deque_capacity outbox.new.back) }
     ensures behind { outbox.new.back.items ≡ outbox.old.back.items }
     ensures same { outbox.new.out.items ≡ outbox.old.out.items }
@@ -137,6 +146,7 @@ fn spell(me: HostId, site: &[Name], outbox: &mut Outbox) -> Result<(), Memory>
             outbox.alloc,
             me,
             site,
+            asker,
             outbox.out.as_slice(),
             &mut outbox.letters,
         ),
@@ -144,10 +154,17 @@ fn spell(me: HostId, site: &[Name], outbox: &mut Outbox) -> Result<(), Memory>
 }
 
 // Starts what may start. What each start says is spelled before the next one is made.
-fn settle<D: Disk>(me: HostId, node: &mut Node<D>, now: u64, outbox: &mut Outbox) -> Result<(), Cut>
+fn settle<D: Disk>(
+    me: HostId,
+    node: &mut Node<D>,
+    asker: &Option<Asker>,
+    now: u64,
+    outbox: &mut Outbox,
+) -> Result<(), Cut>
     requires sound { IsSoundHost (content_of node.old) }
     requires running { is_stopped node.old ≡ false }
     requires host { IsHost me }
+    requires asker { IsRightAsker me asker.now }
     requires said { AreRight 16 outbox.old.out.items }
     requires short { AreShort outbox.old.out.items }
     requires many { length outbox.old.letters.items ≡ length outbox.old.out.items }
@@ -155,7 +172,8 @@ fn settle<D: Disk>(me: HostId, node: &mut Node<D>, now: u64, outbox: &mut Outbox
     ensures leaves { Leaves node.old node.new Cut.Disk result }
     ensures many { UnlessMemory result (length outbox.new.letters.items ≡ length outbox.new.out.items) }
     ensures ready { (s : Plain) (here : Here) → Knows node.old s → here ≡ record { me = me; site = (content_of node.old).site }
-        → AreReady here outbox.old.out.items outbox.old.letters.items → UnlessMemory result (AreReady here outbox.new.out.items outbox.new.letters.items) }
+        → AreReady here asker.now outbox.old.out.items outbox.old.letters.items
+        → UnlessMemory result (AreReady here asker.now outbox.new.out.items outbox.new.letters.items) }
     ensures room { UnlessMemory result (length outbox.new.back.items + length outbox.new.out.items ≤ deque_capacity outbox.new.back) }
     ensures behind { outbox.new.back.items ≡ outbox.old.back.items }
     ensures told { (s : Plain) → Knows node.old s → OnOk result (Knows node.new (after_starts (starts now s) s)
@@ -175,7 +193,7 @@ fn settle<D: Disk>(me: HostId, node: &mut Node<D>, now: u64, outbox: &mut Outbox
             Err(cut) => return Err(cut),
         }
         let site = node.state().site.as_slice();
-        if let Err(memory) = spell(me, site, outbox) {
+        if let Err(memory) = spell(me, site, asker, outbox) {
             return Err(Cut::Memory(memory));
         }
     }
@@ -187,12 +205,14 @@ fn take_whole<D: Disk>(
     me: HostId,
     node: &mut Node<D>,
     event: &mut Event,
+    asker: &Option<Asker>,
     now: u64,
     outbox: &mut Outbox,
 ) -> Result<bool, Cut>
     requires sound { IsSoundHost (content_of node.old) }
     requires running { is_stopped node.old ≡ false }
     requires host { IsHost me }
+    requires asker { IsRightAsker me asker.now }
     requires sane { IsTrue (is_sane_event (length (content_of node.old).site) event.old) }
     requires right { IsTrue (is_right_event (length (content_of node.old).site) event.old) }
     requires silent { outbox.old.out.items ≡ [] }
@@ -200,7 +220,7 @@ fn take_whole<D: Disk>(
     ensures leaves { Leaves node.old node.new Cut.Disk result }
     ensures many { UnlessMemory result (length outbox.new.letters.items ≡ length outbox.new.out.items) }
     ensures ready { (s : Plain) (here : Here) → Knows node.old s → here ≡ record { me = me; site = (content_of node.old).site }
-        → UnlessMemory result (AreReady here outbox.new.out.items outbox.new.letters.items) }
+        → UnlessMemory result (AreReady here asker.now outbox.new.out.items outbox.new.letters.items) }
     ensures room { UnlessMemory result (length outbox.new.back.items + length outbox.new.out.items ≤ deque_capacity outbox.new.back) }
     ensures behind { outbox.new.back.items ≡ outbox.old.back.items }
     ensures told { (s : Plain) (e : Happening) → Knows node.old s → event.old ≡ at_moment now e
@@ -218,10 +238,10 @@ fn take_whole<D: Disk>(
         Ok(halts) => halts,
     };
     let site = node.state().site.as_slice();
-    if let Err(memory) = spell(me, site, outbox) {
+    if let Err(memory) = spell(me, site, asker, outbox) {
         return Err(Cut::Memory(memory));
     }
-    match settle(me, node, now, outbox) {
+    match settle(me, node, asker, now, outbox) {
         Err(cut) => Err(cut),
         Ok(()) => Ok(halts),
     }
@@ -231,10 +251,10 @@ fn take_whole<D: Disk>(
 fn carry_all<X: Outside>(outside: &mut X, outbox: &mut Outbox)
     requires room { length outbox.old.back.items + length outbox.old.out.items ≤ deque_capacity outbox.old.back }
     requires many { length outbox.old.letters.items ≡ length outbox.old.out.items }
-    ensures carried { (here : Here) → AreReady here outbox.old.out.items outbox.old.letters.items
+    ensures carried { (here : Here) (asker : Option Asker) → AreReady here asker outbox.old.out.items outbox.old.letters.items
         → (outcomes : List Outcome) × (outputs_in outcomes ≡ outbox.old.out.items)
         × (outbox.new.back.items ≡ outbox.old.back.items ++ brought_back outcomes)
-        × Carried here outcomes (X.told outside.old) (X.told outside.new) }
+        × Carried here asker outcomes (X.told outside.old) (X.told outside.new) }
     ensures few { length outbox.new.back.items ≤ length outbox.old.back.items + comebacks outbox.old.out.items }
     ensures heard { X.receive_faults outside.new ≡ X.receive_faults outside.old }
     ensures borrows { X.borrows outside.new ≡ X.borrows outside.old }
@@ -247,36 +267,46 @@ fn carry_all<X: Outside>(outside: &mut X, outbox: &mut Outbox)
     );
 }
 
+/// An event that was taken.
+#[derive(Clone, Copy)]
+pub(crate) struct Taken {
+    /// Whether the host is to stop now.
+    pub(crate) halts: bool,
+    /// When it was taken, in seconds.
+    pub(crate) moment: u64,
+}
+
 /// Takes an event, and carries out what goes out of it and of the starts after it. What comes back
 /// of that waits behind what waits in the outbox. Before all is kept and spelled nothing goes out;
-/// where a call of a disk fails, what the calls before it say does, and nothing else. Answers
-/// whether the host is to stop now.
+/// where a call of a disk fails, what the calls before it say does, and nothing else.
 pub(crate) fn take_event<D: Disk, X: Outside>(
     me: HostId,
     node: &mut Node<D>,
     outside: &mut X,
     event: &mut Event,
+    asker: &Option<Asker>,
     outbox: &mut Outbox,
-) -> Result<bool, Cut>
+) -> Result<Taken, Cut>
     requires sound { IsSoundHost (content_of node.old) }
     requires running { is_stopped node.old ≡ false }
     requires host { IsHost me }
+    requires asker { IsRightAsker me asker.now }
     requires sane { IsTrue (is_sane_event (length (content_of node.old).site) event.old) }
     requires right { IsTrue (is_right_event (length (content_of node.old).site) event.old) }
     ensures leaves { Leaves node.old node.new Cut.Disk result }
     ensures ok { (s : Plain) (here : Here) → Knows node.old s → here ≡ record { me = me; site = (content_of node.old).site }
-        → OnOk result ((m : ℕ) × (outcomes : List Outcome) × (outbox.new.back.items ≡ outbox.old.back.items ++ brought_back outcomes)
-        × Knows node.new (after_event m event.old s) × (outputs_in outcomes ≡ outputs m event.old s)
-        × Grew here (took m outcomes ∷ []) none_begun (X.told outside.old) (X.told outside.new)
-        × Keeps node.old node.new s (calls m event.old s)) }
-    ensures halts { (s : Plain) → Knows node.old s → IfOk result (λ halts. halts ≡ shuts_down event.old s) }
+        → IfOk result (λ taken. (outcomes : List Outcome) × (outbox.new.back.items ≡ outbox.old.back.items ++ brought_back outcomes)
+        × Knows node.new (after_event taken.moment event.old s) × (outputs_in outcomes ≡ outputs taken.moment event.old s)
+        × Grew here (took taken.moment asker.now outcomes ∷ []) none_begun (X.told outside.old) (X.told outside.new)
+        × Keeps node.old node.new s (calls taken.moment event.old s)) }
+    ensures halts { (s : Plain) → Knows node.old s → IfOk result (λ taken. taken.halts ≡ shuts_down event.old s) }
     ensures cut { (s : Plain) (here : Here) → Knows node.old s → here ≡ record { me = me; site = (content_of node.old).site }
         → OnErr result ((m : ℕ) × (outcomes : List Outcome)
         × (IsErrOf result (Cut.Memory want) → (outcomes ≡ [])
         × ((u : Plain) × Knows node.new u × IsKeptWithin (KeepsTill node.old node.new s) m event.old s u))
         × ((which : Which) → IsErrOf result (Cut.Disk which)
         → Broke (IsAt node.new) (KeepsTill node.old node.new s) (calls m event.old s) s (outputs_in outcomes) (history_of node.new))
-        × Grew here [] (begun m outcomes) (X.told outside.old) (X.told outside.new)) }
+        × Grew here [] (begun m asker.now outcomes) (X.told outside.old) (X.told outside.new)) }
     ensures fewer { IsTrue (comes_back event.old) → OnOk result (starts_left (content_of node.new) + length outbox.new.back.items
         ≤ starts_left (content_of node.old) + length outbox.old.back.items) }
     ensures heard { X.receive_faults outside.new ≡ X.receive_faults outside.old }
@@ -286,7 +316,7 @@ pub(crate) fn take_event<D: Disk, X: Outside>(
     outbox.letters.clear();
     let now = outside.now();
     set_moment(event, now);
-    match take_whole(me, node, event, now, outbox) {
+    match take_whole(me, node, event, asker, now, outbox) {
         Err(Cut::Memory(memory)) => Err(Cut::Memory(memory)),
         Err(Cut::Disk(which)) => {
             carry_all(outside, outbox);
@@ -294,7 +324,7 @@ pub(crate) fn take_event<D: Disk, X: Outside>(
         }
         Ok(halts) => {
             carry_all(outside, outbox);
-            Ok(halts)
+            Ok(Taken { halts, moment: now })
         }
     }
 }
@@ -329,24 +359,25 @@ pub(crate) fn take_back<D: Disk, X: Outside>(
     requires running { is_stopped node.old ≡ false }
     requires host { IsHost me }
     ensures leaves { Leaves node.old node.new Cut.Disk result }
-    ensures ok { (s : Plain) (here : Here) → Knows node.old s → here ≡ record { me = me; site = (content_of node.old).site }
+    ensures ok { (s : Plain) (here : Here) (remote : Asks) (quiet : Option ℕ) → Knows node.old s → here ≡ record { me = me; site = (content_of node.old).site }
         → OnOk result ((acts : List Act) × (u : Plain) × (arrivals acts ≡ []) × Knows node.new u
-        × Ran here acts (turn s (map event_back outbox.old.back.items)) (idle u) none_begun (X.told outside.old) (X.told outside.new)
-        × Keeps node.old node.new s (run_calls here (turn s (map event_back outbox.old.back.items)) acts)) }
-    ensures cut { (s : Plain) (here : Here) → Knows node.old s → here ≡ record { me = me; site = (content_of node.old).site }
+        × Ran here acts (turn s (map waits_back outbox.old.back.items) remote quiet) (idle u remote quiet) none_begun (X.told outside.old) (X.told outside.new)
+        × Keeps node.old node.new s (run_calls here (turn s (map waits_back outbox.old.back.items) remote quiet) acts)) }
+    ensures cut { (s : Plain) (here : Here) (remote : Asks) (quiet : Option ℕ) → Knows node.old s → here ≡ record { me = me; site = (content_of node.old).site }
         → OnErr result ((acts : List Act) × (t : Turn) × (more : Begun) × (arrivals acts ≡ [])
         × (IsErrOf result (Cut.Memory want) → (u : Plain) × Knows node.new u
-        × IsCutAt (KeptBehind node.old node.new s (run_calls here (turn s (map event_back outbox.old.back.items)) acts)) t more u)
+        × IsCutAt (KeptBehind node.old node.new s (run_calls here (turn s (map waits_back outbox.old.back.items) remote quiet) acts)) t more u)
         × ((which : Which) → IsErrOf result (Cut.Disk which)
-        → IsBroken (IsAt node.new) (KeptBehind node.old node.new s (run_calls here (turn s (map event_back outbox.old.back.items)) acts)) t more
+        → IsBroken (IsAt node.new) (KeptBehind node.old node.new s (run_calls here (turn s (map waits_back outbox.old.back.items) remote quiet) acts)) t more
         (history_of node.new))
-        × Ran here acts (turn s (map event_back outbox.old.back.items)) t more (X.told outside.old) (X.told outside.new)) }
+        × Ran here acts (turn s (map waits_back outbox.old.back.items) remote quiet) t more (X.told outside.old) (X.told outside.new)) }
     ensures heard { X.receive_faults outside.new ≡ X.receive_faults outside.old }
     ensures borrows { X.borrows outside.new ≡ X.borrows outside.old }
 {
     while waits(&outbox.back) {
+        let nobody: Option<Asker> = None;
         let mut event = event_back(outbox.alloc, first(&mut outbox.back));
-        let taken = take_event(me, node, outside, &mut event, outbox);
+        let taken = take_event(me, node, outside, &mut event, &nobody, outbox);
         drop(event);
         if let Err(cut) = taken {
             return Err(cut);

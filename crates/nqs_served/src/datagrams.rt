@@ -6,8 +6,8 @@ use crate::text::put;
 use crate::trouble::Trouble;
 use nqs_base::{Bytes, Name};
 
-// What is wrong with bytes that a length can't tell.
-const TOO_LONG: Trouble = Trouble("bytes are too long for a datagram");
+/// What is wrong with bytes that a length can't tell.
+pub(crate) const TOO_LONG: Trouble = Trouble("bytes are too long for a datagram");
 
 /// Adds a length of four bytes, and the bytes.
 pub(crate) fn put_bytes(bytes: &[u8], out: &mut Vec<u8>) -> Result<(), Trouble> {

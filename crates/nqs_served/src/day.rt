@@ -39,8 +39,8 @@ fn words_of(end: Option<ServeEnd>) -> &'static str {
     }
 }
 
-// Serves a round, and prints how it ended, and how much is still to come.
-fn serve_round(
+/// Serves a round, and prints how it ended, and how much is still to come.
+pub(crate) fn serve_round(
     alloc: Global,
     host: &mut Host,
     outside: &mut Outside,
@@ -72,8 +72,8 @@ pub(crate) fn serve_rounds(
     host.put_table(alloc, out)
 }
 
-// A line for each moment that the clock gave, with how often it was given in a row.
-fn put_moments(alloc: Global, given: &[u64], out: &mut Vec<u8>) -> Result<(), Trouble> {
+/// A line for each moment that the clock gave, with how often it was given in a row.
+pub(crate) fn put_moments(alloc: Global, given: &[u64], out: &mut Vec<u8>) -> Result<(), Trouble> {
     let mut count = 0u64;
     for (place, moment) in given.iter().enumerate() {
         count = count.saturating_add(1);

@@ -1,7 +1,7 @@
-//! The host `alpha` of a site of one, formatted and booted over disks of which a call may fail, and
-//! served.
+//! The host `alpha` of a site of one, or a host of the site `alpha beta`, formatted and booted over
+//! disks of which a call may fail, and served.
 
-ghost use Rattle.std.specs.Prelude.{◌≡◌, [], false, IfOk};
+ghost use Rattle.std.specs.Prelude.{◌≡◌, ◌<◌, ◌≤◌, [], false, length, IfOk};
 ghost use Rattle.nqs_types.specs.declared.world.Which.{Which as OneOf};
 ghost use Rattle.nqs_outside.specs.History.{IsQuiet};
 ghost use Rattle.nqs_disk.specs.MemDisk.{history_of as history_of_disk};
@@ -11,7 +11,7 @@ ghost use Rattle.nqs_node.specs.Nodes.{content_of, is_stopped};
 
 use crate::outside::Outside;
 use crate::trouble::Trouble;
-use nqs_base::{Items, Name};
+use nqs_base::{Items, Name, names_stand};
 use nqs_disk::MemDisk;
 use nqs_node::Node;
 use nqs_outside::Fused;
@@ -40,6 +40,14 @@ pub(crate) fn alpha() -> Name {
     }
 }
 
+/// The name of the other host of a site of two.
+pub(crate) fn beta() -> Name {
+    match Name::read(b"beta") {
+        Ok(name) => name,
+        Err(_) => unreachable!(),
+    }
+}
+
 fn empty_disks(alloc: Global) -> Disks<MemDisk>
     ensures { (which : OneOf) → history_of_disk (disk_at which result) ≡ record { start = []; calls = [] } }
 {
@@ -51,11 +59,14 @@ fn empty_disks(alloc: Global) -> Disks<MemDisk>
     }
 }
 
-fn formatted(alloc: Global) -> Result<Disks<MemDisk>, Trouble>
+fn formatted(alloc: Global, me: HostId, site: &[Name]) -> Result<Disks<MemDisk>, Trouble>
+    requires within { me.0 < length site.now }
+    requires few { length site.now ≤ 16 }
     ensures { IfOk result (λ disks. (which : OneOf) → IsQuiet (history_of_disk (disk_at which disks))) }
 {
+    names_stand(site);
     let mut disks = empty_disks(alloc);
-    format(alloc, &mut disks, HostId(0), &[alpha()])?;
+    format(alloc, &mut disks, me, site)?;
     Ok(disks)
 }
 
@@ -138,11 +149,28 @@ impl Host {
 
     /// The host after its boot.
     pub(crate) fn booted(alloc: Global, failing: Option<Fuse>) -> Result<Host, Trouble> {
-        let mut disks = formatted(alloc)?;
+        let mut disks = formatted(alloc, HostId(0), &[alpha()])?;
         if let Some(call) = failing {
             set_fuse(&mut disks, call);
         }
         Host::of_disks(alloc, disks)
+    }
+
+    // A host of the site `alpha beta`, by its place, after its boot.
+    fn of_two(alloc: Global, me: HostId) -> Result<Host, Trouble>
+        requires { me.0 < 2 }
+    {
+        Host::of_disks(alloc, formatted(alloc, me, &[alpha(), beta()])?)
+    }
+
+    /// The host `alpha` of the site `alpha beta`, after its boot.
+    pub(crate) fn first_of_two(alloc: Global) -> Result<Host, Trouble> {
+        Host::of_two(alloc, HostId(0))
+    }
+
+    /// The host `beta` of the site `alpha beta`, after its boot.
+    pub(crate) fn second_of_two(alloc: Global) -> Result<Host, Trouble> {
+        Host::of_two(alloc, HostId(1))
     }
 
     /// Whether a disk failed.

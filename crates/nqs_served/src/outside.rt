@@ -163,6 +163,16 @@ impl Arrivals {
         self.add_datagram(datagram)
     }
 
+    // The clock gives these moments alone.
+    fn give(&mut self, moments: &[u64]) -> Result<(), Trouble> {
+        self.moments = ListOf::new(self.alloc);
+        for moment in moments {
+            self.moments.push(*moment)?;
+            self.now = *moment;
+        }
+        Ok(())
+    }
+
     // The outside to which this comes. Its clock gives the last moment once more.
     fn into_outside(self) -> Result<Outside, Trouble> {
         let Arrivals {
@@ -213,5 +223,21 @@ pub(crate) fn outside_of(
     for bytes in comes {
         arrivals.add_bytes(bytes)?;
     }
+    arrivals.into_outside()
+}
+
+/// The same, with the moments that its clock gives. The last one is given from then on.
+pub(crate) fn outside_at(
+    alloc: Global,
+    failing: &Failing,
+    moments: &[u64],
+    comes: &[Bytes],
+) -> Result<Outside, Trouble> {
+    let mut arrivals = Arrivals::new(alloc);
+    arrivals.fail(failing)?;
+    for bytes in comes {
+        arrivals.add_bytes(bytes.as_slice())?;
+    }
+    arrivals.give(moments)?;
     arrivals.into_outside()
 }

@@ -1,22 +1,15 @@
 //! A shepherd and a client over a wire whose calls fail, or that brings what is not for them.
 
-use crate::host::alpha;
+use crate::host::{alpha, beta};
 use crate::outside::{Failing, NONE, outside_of};
 use crate::text::{put, put_calls, put_quoted, put_text};
 use crate::trouble::Trouble;
-use nqs_base::{Bytes, Items, Name};
+use nqs_base::{Bytes, Items};
 use nqs_clients::{NqsStatus, ShepherdEnd, client, read_errand, shepherd};
 use nqs_fakes::{MemRunner, MemWire};
 use nqs_outside::{MemSink, MemSource, RunEnd};
 use nqs_types::{HostId, RequestId};
 use std::alloc::Global;
-
-fn beta() -> Name {
-    match Name::read(b"beta") {
-        Ok(name) => name,
-        Err(_) => unreachable!(),
-    }
-}
 
 // The acknowledgement of the first start of the request 7 of host 1, and that of a request 7 of
 // host 0.

@@ -31,7 +31,12 @@ pub(crate) fn put_quoted(bytes: &[u8], out: &mut Vec<u8>) -> Result<(), Trouble>
     put(b"\"", out)
 }
 
-fn put_address(alloc: Global, address: Address, out: &mut Vec<u8>) -> Result<(), Trouble> {
+/// Adds to whom a datagram was to be sent.
+pub(crate) fn put_address(
+    alloc: Global,
+    address: Address,
+    out: &mut Vec<u8>,
+) -> Result<(), Trouble> {
     let (kind, number) = match address {
         Address::Host(host) => ("host", u16::from(host.0)),
         Address::Client(port) => ("port", port),

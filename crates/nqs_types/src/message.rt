@@ -2,6 +2,7 @@
 //! its own.
 ghost use Rattle.std.specs.Prelude.{◌≡◌, IfOk};
 ghost use Rattle.nqs_types.specs.declared.message.Body.TheVariants.{Offer, Stage, Ask, Answer, Ended, Piece};
+ghost use Rattle.nqs_types.specs.declared.message.Body.TheVariants.{RemoteAsk, RemoteAnswer};
 
 use crate::ids::{HostId, RequestId};
 use crate::request::Carried;
@@ -16,9 +17,13 @@ pub enum Tool {
     Qdel,
     Qmgr,
     Tick,
+    /// `Qstat` at another host, which the first word names.
+    Rqstat,
+    /// `Qdel` at another host, which the first word names.
+    Rqdel,
 }
 
-/// What a datagram says, one variant a kind, from 1 to 14 in this order.
+/// What a datagram says, one variant a kind, from 1 to 16 in this order.
 #[derive(Drop)]
 pub enum Body {
     Offer {
@@ -95,6 +100,24 @@ pub enum Body {
         /// How many there are.
         count: u8,
         bytes: Bytes,
+    },
+    /// What a user at the sender asks of the receiver.
+    RemoteAsk {
+        /// From 1 on.
+        number: u64,
+        user: Name,
+        /// `Qstat` or `Qdel`.
+        tool: Tool,
+        words: Items<Bytes>,
+    },
+    /// The answer to it, behind its own fields.
+    RemoteAnswer {
+        number: u64,
+        user: Name,
+        tool: Tool,
+        words: Items<Bytes>,
+        ok: bool,
+        text: Bytes,
     },
 }
 
@@ -210,6 +233,45 @@ fn clone_piece(
     })
 }
 
+fn clone_remote_ask(
+    number: u64,
+    user: Name,
+    tool: Tool,
+    words: &Items<Bytes>,
+) -> Result<Body, AllocError>
+    ensures { IfOk result (λ body. body ≡ RemoteAsk number user tool words.now) }
+{
+    let words = words.clone()?;
+    Ok(Body::RemoteAsk {
+        number,
+        user,
+        tool,
+        words,
+    })
+}
+
+fn clone_remote_answer(
+    number: u64,
+    user: Name,
+    tool: Tool,
+    words: &Items<Bytes>,
+    ok: bool,
+    text: &Bytes,
+) -> Result<Body, AllocError>
+    ensures { IfOk result (λ body. body ≡ RemoteAnswer number user tool words.now ok text.now) }
+{
+    let words = words.clone()?;
+    let text = text.clone()?;
+    Ok(Body::RemoteAnswer {
+        number,
+        user,
+        tool,
+        words,
+        ok,
+        text,
+    })
+}
+
 impl Clone for Body {
     ghost is_clone = { λ a b. b ≡ a };
 
@@ -266,6 +328,20 @@ impl Clone for Body {
                 count,
                 bytes,
             } => clone_piece(*kind, *port, *number, *index, *count, bytes),
+            Body::RemoteAsk {
+                number,
+                user,
+                tool,
+                words,
+            } => clone_remote_ask(*number, *user, *tool, words),
+            Body::RemoteAnswer {
+                number,
+                user,
+                tool,
+                words,
+                ok,
+                text,
+            } => clone_remote_answer(*number, *user, *tool, words, *ok, text),
         }
     }
 }
@@ -299,4 +375,6 @@ pub enum BodyKind {
     Ended,
     EndedAck,
     Piece,
+    RemoteAsk,
+    RemoteAnswer,
 }

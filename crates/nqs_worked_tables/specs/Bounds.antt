@@ -14,7 +14,7 @@ use Rattle.nqs_types.specs.declared.change.Change.TheVariants.{MovedLocal}
 use Rattle.nqs_types.specs.declared.change.Change.TheVariants.{RefusedLocal, HeldFar, StageGot, StageGone, FileGone}
 use Rattle.nqs_types.specs.declared.message.Body.{Body}
 use Rattle.nqs_types.specs.declared.message.Body.TheVariants as body
-use Rattle.nqs_types.specs.declared.message.Tool.TheVariants.{Qmgr}
+use Rattle.nqs_types.specs.declared.message.Tool.TheVariants.{Qdel, Qmgr, Qstat}
 use Rattle.nqs_types.specs.declared.event.Command.{Command}
 use Rattle.nqs_types.specs.declared.event.Command.TheVariants as command
 use Rattle.nqs_types.specs.declared.event.Event.{Event}
@@ -203,7 +203,7 @@ kept_bodies =
     ∷ body.Ready 1 ∷ body.Refused 1 3 ∷ body.Commit 1 ∷ body.Done 1 ∷ body.Inquire 1 ∷ body.Abort 1
     ∷ body.Stage 1 (codes "o") (bytes 32768) ∷ body.Staged 1
     ∷ body.Ask 1 1 (codes "ann") Qmgr [] [] ∷ body.Answer 1 true [] ∷ body.Ended 1 (request 1 0) 1 0 [] [] ∷ body.EndedAck (request 1 0) 1
-    ∷ body.Piece 1 0 7 0 2 [] ∷ []
+    ∷ body.Piece 1 0 7 0 2 [] ∷ body.RemoteAsk 1 (codes "ann") Qstat [] ∷ body.RemoteAnswer 1 (codes "ann") Qdel [] true [] ∷ []
 
 -- datagrams beyond them
 abbrev pub lost_bodies : List Body

@@ -51,7 +51,7 @@ abbrev pub packets : List Seen
 packets =
     map (λ k. seen.Packet 7 (host 0) (host 1) k 9)
     (kind.Offer ∷ kind.Ready ∷ kind.Refused ∷ kind.Commit ∷ kind.Done ∷ kind.Inquire ∷ kind.Abort ∷ kind.Stage ∷ kind.Staged ∷ kind.Ask ∷ kind.Answer
-    ∷ kind.Ended ∷ kind.EndedAck ∷ kind.Piece ∷ [])
+    ∷ kind.Ended ∷ kind.EndedAck ∷ kind.Piece ∷ kind.RemoteAsk ∷ kind.RemoteAnswer ∷ [])
 
 -- a table with a request in each state
 abbrev pub table_of_each : Seen

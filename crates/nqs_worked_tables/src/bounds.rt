@@ -69,7 +69,7 @@ pub fn events_have_bounds()
     ensures other_refusals { map is_offer_refusal (0 ∷ 1 ∷ 2 ∷ 4 ∷ 5 ∷ 6 ∷ 7 ∷ 8 ∷ 9 ∷ 10 ∷ 11 ∷ 12 ∷ 13 ∷ 14 ∷ 15 ∷ 16 ∷ 17 ∷ 18 ∷ 20 ∷ 22 ∷ 23 ∷ 24 ∷ 25 ∷ 26
         ∷ 27 ∷ 30 ∷ 34 ∷ []) ≡ replicate 27 false }
     ensures places { map (λ n. is_of_site 2 (host n)) (0 ∷ 1 ∷ 2 ∷ []) ≡ true ∷ true ∷ false ∷ [] }
-    ensures bodies { map (is_sane_body 2) kept_bodies ≡ replicate 16 true }
+    ensures bodies { map (is_sane_body 2) kept_bodies ≡ replicate 18 true }
     ensures no_bodies { map (is_sane_body 2) lost_bodies ≡ replicate 10 false }
     ensures offers { (script : List ℕ) → is_sane_body 2 (body.Offer 1 1 (codes "q") far_carried script) ≡ nat_le (length script) 1048576 }
     ensures events { map (is_sane_event 2) kept_events ≡ replicate 7 true }

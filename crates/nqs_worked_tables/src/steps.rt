@@ -10,7 +10,7 @@ ghost use Rattle.nqs_types.specs.declared.edit.LimitsEdit.TheVariants.{SetGlobal
 ghost use Rattle.nqs_types.specs.declared.edit.AccessEdit.TheVariants.{AddManager};
 ghost use Rattle.nqs_types.specs.declared.edit.RowsEdit.TheVariants.{AbortQueue};
 ghost use Rattle.nqs_types.specs.declared.message.Body.TheVariants as body;
-ghost use Rattle.nqs_types.specs.declared.message.Tool.TheVariants.{Qmgr};
+ghost use Rattle.nqs_types.specs.declared.message.Tool.TheVariants.{Qdel, Qmgr, Qstat};
 ghost use Rattle.nqs_types.specs.declared.event.Output.TheVariants as out;
 ghost use Rattle.nqs_types.specs.declared.event.Reply.TheVariants as reply;
 ghost use Rattle.nqs_types.specs.declared.event.Command.TheVariants as command;
@@ -89,7 +89,8 @@ pub fn stages_come()
         ∷ makes (StageGone (host 1) 7) ((message (host 0) (host 1) (body.Stage 8 (codes "o") []), Some (codes "s")) ∷ []) ∷ quiet ∷ [] }
     ensures staged_last { arrive 1 (body.Staged 8 ∷ []) free_guests ≡ makes (StageGone (host 1) 8) [] ∷ [] }
     ensures clients { arrive 1 (body.Ask 1 1 (codes "root") Qmgr [] [] ∷ body.Answer 1 true [] ∷ body.Ended 1 (request 1 0) 1 0 [] []
-        ∷ body.EndedAck (request 1 0) 1 ∷ body.Piece 1 0 7 0 2 [] ∷ []) party ≡ replicate 5 quiet }
+        ∷ body.EndedAck (request 1 0) 1 ∷ body.Piece 1 0 7 0 2 [] ∷ body.RemoteAsk 1 (codes "ann") Qstat []
+        ∷ body.RemoteAnswer 1 (codes "ann") Qdel [] true [] ∷ []) party ≡ replicate 7 quiet }
     ensures files { map (λ n. step (event.Written 60 n) party) (3 ∷ 4 ∷ 5 ∷ []) ≡ makes (FileGone 3) [] ∷ makes (FileGone 4) [] ∷ quiet ∷ [] }
     ensures written_again { step (event.Written 60 3) (applied (FileGone 3) party) ≡ quiet }
     ensures unwritten { step (event.Unwritten 60 3) party ≡ quiet }

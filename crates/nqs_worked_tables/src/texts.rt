@@ -57,6 +57,8 @@ pub fn lines_are_told()
         ∷ codes "packet 7 alpha beta ENDED 9"
         ∷ codes "packet 7 alpha beta ENDEDACK 9"
         ∷ codes "packet 7 alpha beta PIECE 9"
+        ∷ codes "packet 7 alpha beta REMOTEASK 9"
+        ∷ codes "packet 7 alpha beta REMOTEANSWER 9"
         ∷ []) }
     ensures table { told_each (table_of_each ∷ []) ≡ (
         codes "table 5"

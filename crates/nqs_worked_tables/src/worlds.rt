@@ -6,7 +6,7 @@ ghost use Rattle.nqs_types.specs.declared.world.Which.TheVariants.{Root, First, 
 ghost use Rattle.nqs_types.specs.declared.world.Seen.TheVariants as seen;
 ghost use Rattle.nqs_types.specs.declared.message.Body.TheVariants as body;
 ghost use Rattle.nqs_types.specs.declared.message.BodyKind.TheVariants as kind;
-ghost use Rattle.nqs_types.specs.declared.message.Tool.TheVariants.{Qmgr};
+ghost use Rattle.nqs_types.specs.declared.message.Tool.TheVariants.{Qdel, Qmgr, Qstat};
 ghost use Rattle.nqs_types.specs.declared.event.Output.TheVariants as out;
 ghost use Rattle.nqs_types.specs.declared.event.Reply.TheVariants as reply;
 ghost use Rattle.nqs_types.specs.declared.event.Command.TheVariants.{Shutdown, Tick};
@@ -127,13 +127,15 @@ pub fn hosts_go_up_and_down()
 pub fn outputs_are_seen()
     ensures kinds { map body_kind (body.Offer 1 1 (codes "q") far_carried [] ∷ body.Ready 1 ∷ body.Refused 1 3 ∷ body.Commit 1 ∷ body.Done 1 ∷ body.Inquire 1
         ∷ body.Abort 1 ∷ body.Stage 1 (codes "o") [] ∷ body.Staged 1 ∷ body.Ask 1 2 (codes "ann") Qmgr [] [] ∷ body.Answer 1 true []
-        ∷ body.Ended 1 (request 2 0) 1 0 [] [] ∷ body.EndedAck (request 2 0) 1 ∷ body.Piece 1 0 7 0 2 [] ∷ [])
+        ∷ body.Ended 1 (request 2 0) 1 0 [] [] ∷ body.EndedAck (request 2 0) 1 ∷ body.Piece 1 0 7 0 2 []
+        ∷ body.RemoteAsk 1 (codes "ann") Qstat [] ∷ body.RemoteAnswer 1 (codes "ann") Qdel [] true [] ∷ [])
         ≡ kind.Offer ∷ kind.Ready ∷ kind.Refused ∷ kind.Commit ∷ kind.Done ∷ kind.Inquire ∷ kind.Abort ∷ kind.Stage ∷ kind.Staged ∷ kind.Ask ∷ kind.Answer
-        ∷ kind.Ended ∷ kind.EndedAck ∷ kind.Piece ∷ [] }
+        ∷ kind.Ended ∷ kind.EndedAck ∷ kind.Piece ∷ kind.RemoteAsk ∷ kind.RemoteAnswer ∷ [] }
     ensures numbers { map body_number (body.Offer 1 1 (codes "q") far_carried [] ∷ body.Ready 2 ∷ body.Refused 3 19 ∷ body.Commit 4 ∷ body.Done 5
         ∷ body.Inquire 6 ∷ body.Abort 7 ∷ body.Stage 8 (codes "o") [] ∷ body.Staged 9 ∷ body.Ask 1 2 (codes "ann") Qmgr [] [] ∷ body.Answer 1 true []
-        ∷ body.Ended 1 (request 2 0) 1 0 [] [] ∷ body.EndedAck (request 2 0) 1 ∷ body.Piece 1 0 7 0 2 [] ∷ [])
-        ≡ 1 ∷ 2 ∷ 3 ∷ 4 ∷ 5 ∷ 6 ∷ 7 ∷ 8 ∷ 9 ∷ 0 ∷ 0 ∷ 0 ∷ 0 ∷ 0 ∷ [] }
+        ∷ body.Ended 1 (request 2 0) 1 0 [] [] ∷ body.EndedAck (request 2 0) 1 ∷ body.Piece 1 0 7 0 2 []
+        ∷ body.RemoteAsk 1 (codes "ann") Qstat [] ∷ body.RemoteAnswer 1 (codes "ann") Qdel [] true [] ∷ [])
+        ≡ 1 ∷ 2 ∷ 3 ∷ 4 ∷ 5 ∷ 6 ∷ 7 ∷ 8 ∷ 9 ∷ 0 ∷ 0 ∷ 0 ∷ 0 ∷ 0 ∷ 0 ∷ 0 ∷ [] }
     ensures sent { map (seen_output (host 1) 7) (out.Send (sent 0 1 4) ∷ out.Reply 9 77 reply.Done ∷ out.Kill (request 2 0) 3 ∷ out.Ended (request 2 0) 3 4
         ∷ out.Unlaunched (request 2 0) 3 ∷ out.Again (request 2 0) ∷ out.Lost (request 2 0) ∷ out.File 4 (codes "o") (codes "abc")
         ∷ out.Ack 9 (request 2 0) 3 ∷ [])

@@ -11,7 +11,7 @@ use Rattle.nqs_serve.specs.Events.{Here}
 use Rattle.nqs_serve.specs.Moments.{TellsThroughout, IsPassed}
 use Rattle.nqs_serve.specs.Nodes.{IsAt}
 use Rattle.nqs_serve.specs.Keeping.{KeptBehind}
-use Rattle.nqs_serve.specs.Runs.{idle, AreHeard, Ran, run_calls}
+use Rattle.nqs_serve.specs.Runs.{begins, AreHeard, Ran, run_calls}
 use Rattle.nqs_cli.specs.Daemons.{telling_of, here_of, Leaves, KeptSince}
 use Rattle.nqs_cli.specs.Parts.{Outside, daemon_told}
 use Rattle.nqs_cli.proofs.Serving.{leaves, kept_since, ends_as, since_boot, not_booted, has_served}
@@ -62,13 +62,13 @@ returns g c = λ me names disks loaded here.
     let new = c.serve_with_notes-end.new.node in
     let same : (which : Which) → histories_of g.D.Disk.history c.close.result which ≡ history_of new which =
     λ which. ap g.D.Disk.history (c.close.ensures which) in
-    let moved = subst (λ (h : Here). AreHeard h [] run.0 × Ran h run.0 (idle u) run.1 run.2 (telling_of was) (telling_of now)
-    × EndsWith (Tells new) (IsAt new) (KeptBehind node new u (run_calls h (idle u) run.0)) (history_of new) c.serve_with_notes-end.result c.args.turns
-    (stops h (idle u) run.0) run.1 run.2)
+    let moved = subst (λ (h : Here). AreHeard h [] run.0 × Ran h run.0 (begins u) run.1 run.2 (telling_of was) (telling_of now)
+    × EndsWith h (Tells new) (IsAt new) (KeptBehind node new u (run_calls h (begins u) run.0)) (history_of new) c.serve_with_notes-end.result c.args.turns
+    (stops h (begins u) run.0) run.1 run.2)
     place (run.3, run.4, run.5) in
-    let passes = subst (λ (h : Here). TellsThroughout (active_of node) (history_of node) (history_of new) (IsPassed h (idle u) run.0 run.2.moments))
+    let passes = subst (λ (h : Here). TellsThroughout (active_of node) (history_of node) (history_of new) (IsPassed h (begins u) run.0 run.2.moments))
     place run.6 in
-    let calls = run_calls (here_of s) (idle u) run.0 in (
+    let calls = run_calls (here_of s) (begins u) run.0 in (
       s,
       there,
       ours.2,
@@ -80,14 +80,15 @@ returns g c = λ me names disks loaded here.
         named.1,
         moved.0,
         moved.1,
-        ends_as (Tells new) (Leaves now.disks) (IsAt new) (KeptBehind node new u calls) (KeptSince named.0 was.disks now.disks s calls) (history_of new)
+        ends_as (here_of s) (Tells new) (Leaves now.disks) (IsAt new) (KeptBehind node new u calls) (KeptSince named.0 was.disks now.disks s calls)
+            (history_of new)
             (histories_of g.D.Disk.history c.close.result)
             (λ t told. leaves new t (histories_of g.D.Disk.history c.close.result) yes told same)
             (λ done failed kept. kept_since named.0 (active_of node) _ (history_of node) (history_of new) (histories_of g.D.Disk.history c.close.result) s
             (calls ++ done) failed same (booted.active yes named.0 named.1) (booted.spelled yes named.0 named.1)
             (booted.any_moment yes s there named.0 named.1) kept)
             same
-            c.serve_with_notes-end.result c.args.turns (stops (here_of s) (idle u) run.0) run.1 run.2 moved.2,
+            c.serve_with_notes-end.result c.args.turns (stops (here_of s) (begins u) run.0) run.1 run.2 moved.2,
         since_boot named.0 (active_of node) _ (history_of node) (history_of new) (histories_of g.D.Disk.history c.close.result) s run.0 run.2.moments same
             (booted.active yes named.0 named.1) (booted.any_moment yes s there named.0 named.1) passes,
       ),

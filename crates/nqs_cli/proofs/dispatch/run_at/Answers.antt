@@ -2,7 +2,7 @@ use Rattle.std.proofs.Common.{refl, sym, subst}
 use Rattle.nqs_outside.specs.Streams.{fed, sunk}
 use Rattle.nqs_cli.specs.Runs.{DoesOrWants, Uses, place_at, seen}
 use Rattle.nqs_cli.specs.declared.form.Form.{Form}
-use Rattle.nqs_cli.proofs.Using.{uses_as, untouched}
+use Rattle.nqs_cli.proofs.Using.{uses_as, unread, untouched}
 use Rattle.nqs_cli.proofs.dispatch.run_at.Goals as goal
 
 pub returns-in-Format : goal.returns-in-Format
@@ -39,3 +39,12 @@ returns-in-Client g c =
     let e = seen g.M.D.Disk.tells was now (fed g.S.Source.left g.S.Source.faults c.args.input.now c.ask.new.input)
     (sunk g.K.Sink.taken g.K.Sink.faults g.K.Sink.stalls c.args.out.now c.ask.new.out) in
     subst (λ (f : Form). Uses was now (λ parts. DoesOrWants e (place_at c.args.station.now) f parts c.ask.result)) (sym c.in-Client.is) c.ask.ensures
+
+pub returns-in-Balance : goal.returns-in-Balance
+returns-in-Balance g c =
+    let was = g.M.Machine.told c.args.machine.now in
+    let now = g.M.Machine.told c.rebalance.new.machine in
+    let e = seen g.M.D.Disk.tells was now (fed g.S.Source.left g.S.Source.faults c.args.input.now c.args.input.now)
+    (sunk g.K.Sink.taken g.K.Sink.faults g.K.Sink.stalls c.args.out.now c.rebalance.new.out) in
+    subst (λ (f : Form). Uses was now (λ parts. DoesOrWants e (place_at c.args.station.now) f parts c.rebalance.result)) (sym c.in-Balance.is)
+    (uses_as _ _ _ _ (λ parts did. unread e _ parts _ (refl, refl) did) c.rebalance.ensures)

@@ -6,17 +6,17 @@ use Rattle.nqs_clients.proofs.Hearing.{hearing_first, hearing_more, hears_answer
 use Rattle.nqs_clients.proofs.exchange.await_answer.Goals as goal
 
 pub loop-turn-init : goal.loop-turn-init
-loop-turn-init g c = record { hearing = hearing_first c.args.host (g.W.Wire.traffic c.args.wire.now); none = refl; unsent = refl }
+loop-turn-init g c = record { hearing = hearing_first c.args.token c.args.host (g.W.Wire.traffic c.args.wire.now); none = refl; unsent = refl }
 
 pub returns-then-is_some-clause-heard : goal.returns-then-is_some-clause-heard
 returns-then-is_some-clause-heard g c =
-    hears_answer c.args.host (g.W.Wire.traffic c.args.wire.now) (g.W.Wire.traffic c.loop-turn.wire)
+    hears_answer c.args.token c.args.host (g.W.Wire.traffic c.args.wire.now) (g.W.Wire.traffic c.loop-turn.wire)
     (g.W.Wire.traffic c.hear.new.wire) c.loop-turn._turn c.in-Ok.heard
     c.loop-turn-test.true c.loop-turn.invariant.hearing c.in-Ok.ensures.traffic (sym c.if-is_some.ensures)
 
 pub returns-in-Err-clause-heard : goal.returns-in-Err-clause-heard
 returns-in-Err-clause-heard g c =
-    hears_stopped c.args.host (g.W.Wire.traffic c.args.wire.now) (g.W.Wire.traffic c.loop-turn.wire)
+    hears_stopped c.args.token c.args.host (g.W.Wire.traffic c.args.wire.now) (g.W.Wire.traffic c.loop-turn.wire)
     (g.W.Wire.traffic c.hear.new.wire) c.loop-turn._turn c.in-Err.stop
     c.loop-turn-test.true c.loop-turn.invariant.hearing c.in-Err.ensures.traffic
 
@@ -27,7 +27,7 @@ returns-in-Err-clause-cause g c =
 
 pub loop-turn-preserved : goal.loop-turn-preserved
 loop-turn-preserved g c = record {
-  hearing = hearing_more c.args.host (g.W.Wire.traffic c.args.wire.now) (g.W.Wire.traffic c.loop-turn.wire)
+  hearing = hearing_more c.args.token c.args.host (g.W.Wire.traffic c.args.wire.now) (g.W.Wire.traffic c.loop-turn.wire)
       (g.W.Wire.traffic c.hear.new.wire) c.loop-turn._turn c.in-Ok.heard
       c.loop-turn.invariant.hearing c.in-Ok.ensures.traffic (sym c.if-is_some.ensures);
   none = c.in-Ok.ensures.cause ∙ c.loop-turn.invariant.none;
@@ -36,5 +36,5 @@ loop-turn-preserved g c = record {
 
 pub returns-clause-heard : goal.returns-clause-heard
 returns-clause-heard g c =
-    hears_none c.args.host (g.W.Wire.traffic c.args.wire.now) (g.W.Wire.traffic c.loop-turn.wire) c.loop-turn._turn
+    hears_none c.args.token c.args.host (g.W.Wire.traffic c.args.wire.now) (g.W.Wire.traffic c.loop-turn.wire) c.loop-turn._turn
     (omega (arith, c.loop-turn-test.false, c.loop-turn.auto._turn-end)) c.loop-turn.invariant.hearing

@@ -10,7 +10,7 @@ use Rattle.nqs_clients.proofs.exchange.exchange.Goals as goal
 
 pub returns-in-Ok-send_all : goal.returns-in-Ok-send_all
 returns-in-Ok-send_all g c =
-    exchanged c.args.port c.args.host c.args.errand c.args.script.items
+    exchanged c.args.token c.args.port c.args.host c.args.errand c.args.script.items
     (wired g.W.Wire.traffic g.W.Wire.receive_faults g.W.Wire.send_faults c.args.wire.now c.await_answer.new.wire)
     (g.W.Wire.traffic c.send_all.new.wire) c.await_answer.result
     (subst (λ l. Extends (g.W.Wire.traffic c.args.wire.now) (g.W.Wire.traffic c.send_all.new.wire) (sends c.args.host l))

@@ -12,7 +12,7 @@ use Rattle.nqs_serve.proofs.carry.carry.Goals as goal
 
 pub loop-place-init : goal.loop-place-init
 loop-place-init g c = record {
-  carried = λ here same. ([], refl, sym (append-nil c.args.back.now.items), adds_none _);
+  carried = λ here asker same. ([], refl, sym (append-nil c.args.back.now.items), adds_none _);
   few = omega arith;
   room = omega (arith, c.requires.room);
   heard = refl;
@@ -30,16 +30,16 @@ loop-place-preserved g c =
     let grown : take (c.loop-place.place + 1) c.args.outputs.now ≡ take c.loop-place.place c.args.outputs.now ++ o ∷ [] =
     taken_more c.args.outputs.now c.loop-place.place o c.loop-place-test.true c.index-outputs-place.is in
     record {
-      carried = λ here same.
-          let before = c.loop-place.invariant.carried here same in
-          let sends = at_mapped (letter_of here) c.args.outputs.now c.args.letters.now c.loop-place.place o c.index-letters-place.result same
+      carried = λ here asker same.
+          let before = c.loop-place.invariant.carried here asker same in
+          let sends = at_mapped (letter_of here asker) c.args.outputs.now c.args.letters.now c.loop-place.place o c.index-letters-place.result same
           c.loop-place-test.true c.index-outputs-place.is c.index-letters-place.is in (
             before.0 ++ this ∷ [],
             map-append (λ (x : Outcome). x.output) before.0 (this ∷ []) ∙ ap (λ (l : List Output). l ++ o ∷ []) before.1 ∙ sym grown,
             did.noted ∙ ap (λ (l : List Comeback). l ++ option_to_list (comeback_of o c.carry_one.result)) before.2
                 ∙ append_assoc c.args.back.now.items (brought_back before.0) (option_to_list (comeback_of o c.carry_one.result))
                 ∙ ap (λ (l : List Comeback). c.args.back.now.items ++ l) (one_more (λ (x : Outcome). option_to_list (comeback_of x.output x.ok)) before.0 this),
-            carried_more here before.0 this c.index-letters-place.result _ _ _ sends before.3 did.adds,
+            carried_more here asker before.0 this c.index-letters-place.result _ _ _ sends before.3 did.adds,
           );
       few = omega (arith, c.loop-place.invariant.few, did.few, ap comebacks grown, comebacks_append (take c.loop-place.place c.args.outputs.now) (o ∷ []));
       room = omega (arith, c.loop-place.invariant.room, did.few, did.room, one_at_most o);
@@ -48,8 +48,8 @@ loop-place-preserved g c =
     }
 
 pub returns-clause-carried : goal.returns-clause-carried
-returns-clause-carried g c = λ here same.
-    let before = c.loop-place.invariant.carried here same in (
+returns-clause-carried g c = λ here asker same.
+    let before = c.loop-place.invariant.carried here asker same in (
       before.0,
       before.1 ∙ taken_all c.args.outputs.now c.loop-place.place
           (omega (arith, c.loop-place-test.false)) c.loop-place.auto.place-end,

@@ -1,168 +1,228 @@
-use Rattle.std.proofs.Common.{◌≡◌, ℕ, refl, ap, sym, subst, ◌∙◌, ◌++◌, [], ◌∷◌, List, length, map, arith, inl, inr, Some, None, Err, IsTrue}
+use Rattle.std.proofs.Common.{◌≡◌, ◌⊎◌, ℕ, refl, ap, sym, subst, ◌∙◌, [], ◌∷◌, List, length, arith, Option, inl, inr, Some, None, Err, IsTrue}
+use Rattle.std.proofs.lemmas.Result.{IfErr-weaker, IfOk-weaker}
 use Rattle.std.specs.Option.{option_to_list}
 use Rattle.nqs_rules.specs.Sane.{is_sane_event}
-use Rattle.nqs_rules.specs.Stepped.{Stepped}
-use Rattle.nqs_node.specs.Carried.{Kept}
+use Rattle.nqs_serve.specs.Ends.{Receives, stops, IsAtRest}
+use Rattle.nqs_serve.specs.Errands.{happens, to_do, relayed, event_in_task}
 use Rattle.nqs_serve.specs.Events.{Here, stops_by}
-use Rattle.nqs_serve.specs.Gathers.{heard, taken_by, IfTaken}
-use Rattle.nqs_serve.specs.Keeping.{Keeps, KeepsTill, KeptBehind}
-use Rattle.nqs_serve.specs.Steps.{after_event, calls}
-use Rattle.nqs_serve.specs.Runs.{received, took, turn, idle, none_begun, begun, event_back, run_calls}
-use Rattle.nqs_serve.specs.Ends.{Ends, Receives, stops, cuts_off}
-use Rattle.nqs_serve.proofs.Acts.{ran_received, ran_cut, ran_then, tended_grew, ran_turn, turn_stops, turn_calls, one_heard}
-use Rattle.nqs_serve.proofs.Ending.{one_receive, cut_ends, cut_early, disk_cut, wire_no_disk, memory_no_disk}
-use Rattle.nqs_serve.proofs.Tellings.{adds_none}
-use Rattle.nqs_serve.proofs.Keeping.{kept_none, kept_both, kept_then, behind_both}
-use Rattle.nqs_serve.proofs.Leaving.{none_left, then_left, left_as, left_by, no_error}
+use Rattle.nqs_serve.specs.Gathers.{heard, taken_by, IsRightCame}
+use Rattle.nqs_state.specs.State.{Plain}
+use Rattle.nqs_outside.specs.Asked.{Arrival, inbound}
+use Rattle.nqs_remote.specs.Remote.{Asks}
+use Rattle.nqs_serve.specs.declared.errand.Errand.{Errand}
+use Rattle.nqs_serve.specs.Runs.{received, relayed_on, turn, idle, moment_in, none_begun, begun, Begun, IsIdle, Ran}
 use Rattle.nqs_serve.specs.Sends.{is_right_event}
+use Rattle.nqs_serve.specs.Tellings.{Telling, AddsNone, Gives, Passes}
+use Rattle.nqs_serve.proofs.Acts.{none_arrive, ran_received, ran_cut, tended_grew, turn_stops, one_heard}
+use Rattle.nqs_serve.proofs.Ending.{one_receive, wire_no_disk, memory_no_disk}
+use Rattle.nqs_serve.proofs.Tellings.{adds_none, adds_then}
+use Rattle.nqs_serve.proofs.Keeping.{kept_none}
+use Rattle.nqs_serve.proofs.Leaving.{none_left, no_error}
+use Rattle.nqs_serve.proofs.Turning.{ran_event, ran_errand}
 use Rattle.nqs_serve.proofs.daemon.turn.Goals as goal
 
 pub returns-in-Ok-Ignored-clause-ok : goal.returns-in-Ok-Ignored-clause-ok
-returns-in-Ok-Ignored-clause-ok g c = λ s here knows same.
+returns-in-Ok-Ignored-clause-ok g c = λ s here quiet knows same idles.
     let came = c.in-Ok-Ignored.ensures.came in
     let at : List (List ℕ) → Here = λ names. record { me = c.args.me; site = names } in
     let is_here : at c.as_slice-site.result.now ≡ here = ap at (c.as_slice-site.ensures ∙ ap (λ h. h.site) c.state.ensures) ∙ sym same in
     let g0 = c.args.room.now.gather in
-    let none : None ≡ (heard here g0 came.0).event = sym (ap taken_by c.in-Ok-Ignored.field-0-is) ∙ came.1 ∙ ap (λ h. (heard h g0 came.0).event) is_here in
+    let none : None ≡ (heard here g0 came.0).brought = sym (ap taken_by c.in-Ok-Ignored.field-0-is) ∙ came.1 ∙ ap (λ h. (heard h g0 came.0).brought) is_here in
     let were = one_heard here g0 _ came.0 None [] none (came.2 ∙ ap (λ h. (heard h g0 came.0).gathered) is_here) refl in (
       received came.0 None ∷ [],
       s,
+      None,
       knows,
       refl,
+      (refl, refl),
       were.0,
       were.1,
-      ran_received here s came.0 None _ _ (tended_grew here came.0 None _ _ _ came.3 c.ignored.ensures.asked),
+      ran_received here s c.args.room.now.remote quiet came.0 None _ _ idles (tended_grew here came.0 None _ _ _ came.3 c.ignored.ensures.asked),
       kept_none c.args.node.now s knows,
     )
 
 pub returns-in-Ok-Piece-clause-ok : goal.returns-in-Ok-Piece-clause-ok
-returns-in-Ok-Piece-clause-ok g c = λ s here knows same.
+returns-in-Ok-Piece-clause-ok g c = λ s here quiet knows same idles.
     let came = c.in-Ok-Piece.ensures.came in
     let at : List (List ℕ) → Here = λ names. record { me = c.args.me; site = names } in
     let is_here : at c.as_slice-site.result.now ≡ here = ap at (c.as_slice-site.ensures ∙ ap (λ h. h.site) c.state.ensures) ∙ sym same in
     let g0 = c.args.room.now.gather in
-    let none : None ≡ (heard here g0 came.0).event = sym (ap taken_by c.in-Ok-Piece.field-0-is) ∙ came.1 ∙ ap (λ h. (heard h g0 came.0).event) is_here in
+    let none : None ≡ (heard here g0 came.0).brought = sym (ap taken_by c.in-Ok-Piece.field-0-is) ∙ came.1 ∙ ap (λ h. (heard h g0 came.0).brought) is_here in
     let were = one_heard here g0 _ came.0 None [] none (came.2 ∙ ap (λ h. (heard h g0 came.0).gathered) is_here) refl in (
       received came.0 None ∷ [],
       s,
+      None,
       knows,
       refl,
+      (refl, refl),
       were.0,
       were.1,
-      ran_received here s came.0 None _ _ (tended_grew here came.0 None _ _ _ came.3 (adds_none _)),
+      ran_received here s c.args.room.now.remote quiet came.0 None _ _ idles (tended_grew here came.0 None _ _ _ came.3 (adds_none _)),
       kept_none c.args.node.now s knows,
     )
 
 pub returns-in-Err-Wire-clause-err : goal.returns-in-Err-Wire-clause-err
-returns-in-Err-Wire-clause-err g c = λ s here knows same.
+returns-in-Err-Wire-clause-err g c = λ s here quiet knows same idles.
     let lost = c.in-Err-Wire.ensures.lost (ap Err c.in-Err-Wire.field-0-is) in
-    let kept = kept_none c.args.node.now s knows in (
+    let kept = kept_none c.args.node.now s knows in
+    let t = idle s c.args.room.now.remote quiet in (
       [],
-      idle s,
+      t,
       none_begun,
       tt,
-      ran_cut here (idle s) none_begun _ _ lost.0,
-      (refl, refl, knows.1, refl, omega arith, kept.0),
+      ran_cut here t none_begun _ _ lost.0,
+      (idles, refl, knows.1, refl, omega arith, kept.0),
     )
 
 pub returns-in-Err-Memory-clause-err : goal.returns-in-Err-Memory-clause-err
-returns-in-Err-Memory-clause-err g c = λ s here knows same.
+returns-in-Err-Memory-clause-err g c = λ s here quiet knows same idles.
     let came = c.in-Err-Memory.ensures.cut (ap Err c.in-Err-Memory.field-0-is) in
     let kept = kept_none c.args.node.now s knows in
-    let e = (heard here c.args.room.now.gather came.0).event in (
-      received came.0 e ∷ [],
-      turn s (option_to_list e),
+    let b = (heard here c.args.room.now.gather came.0).brought in (
+      received came.0 b ∷ [],
+      turn s (option_to_list b) c.args.room.now.remote None,
       none_begun,
       (refl, tt),
-      ran_received here s came.0 e _ _ came.1,
-      ((s, knows.1, inl (refl, refl, kept.0)), one_receive (stops_by e s)),
+      ran_received here s c.args.room.now.remote quiet came.0 b _ _ idles came.1,
+      ((s, knows.1, inl (inl refl, refl, kept.0)), one_receive (stops_by (event_in_task b) s)),
     )
 
-pub take_event-taken-requires-clause-sane : goal.take_event-taken-requires-clause-sane
-take_event-taken-requires-clause-sane g c =
-    let some : IsTrue (is_sane_event (length c.as_slice-site.result.now) c.in-Ok-Event.event) =
-    subst (λ o. IfTaken o (λ e. IsTrue (is_sane_event (length c.as_slice-site.result.now) e))) c.in-Ok-Event.field-0-is c.in-Ok-Event.ensures.sane in
-    subst (λ (names : List (List ℕ)). IsTrue (is_sane_event (length names) c.in-Ok-Event.event))
-    (c.as_slice-site.ensures ∙ ap (λ h. h.site) c.state.ensures) some
+-- an event
 
-pub take_event-taken-requires-clause-right : goal.take_event-taken-requires-clause-right
-take_event-taken-requires-clause-right g c =
-    let some : IsTrue (is_right_event (length c.as_slice-site.result.now) c.in-Ok-Event.event) =
-    subst (λ o. IfTaken o (λ e. IsTrue (is_right_event (length c.as_slice-site.result.now) e))) c.in-Ok-Event.field-0-is c.in-Ok-Event.ensures.right in
+pub take_turn-requires-clause-sane : goal.take_turn-requires-clause-sane
+take_turn-requires-clause-sane g c =
+    let right = subst (IsRightCame (length c.as_slice-site.result.now) c.args.me) c.in-Ok-Event.field-0-is c.in-Ok-Event.ensures.right in
+    subst (λ (names : List (List ℕ)). IsTrue (is_sane_event (length names) c.in-Ok-Event.event))
+    (c.as_slice-site.ensures ∙ ap (λ h. h.site) c.state.ensures) right.0
+
+pub take_turn-requires-clause-right : goal.take_turn-requires-clause-right
+take_turn-requires-clause-right g c =
+    let right = subst (IsRightCame (length c.as_slice-site.result.now) c.args.me) c.in-Ok-Event.field-0-is c.in-Ok-Event.ensures.right in
     subst (λ (names : List (List ℕ)). IsTrue (is_right_event (length names) c.in-Ok-Event.event))
-    (c.as_slice-site.ensures ∙ ap (λ h. h.site) c.state.ensures) some
+    (c.as_slice-site.ensures ∙ ap (λ h. h.site) c.state.ensures) right.1
+
+pub take_turn-requires-clause-asker : goal.take_turn-requires-clause-asker
+take_turn-requires-clause-asker g c =
+    let right = subst (IsRightCame (length c.as_slice-site.result.now) c.args.me) c.in-Ok-Event.field-0-is c.in-Ok-Event.ensures.right in
+    right.2
+
+pub returns-in-Ok-Event-clause-ok : goal.returns-in-Ok-Event-clause-ok
+returns-in-Ok-Event-clause-ok g c = λ s here quiet knows same idles.
+    let e = c.in-Ok-Event.event in
+    let asker = c.in-Ok-Event.asker in
+    let came = c.in-Ok-Event.ensures.came in
+    let at : List (List ℕ) → Here = λ names. record { me = c.args.me; site = names } in
+    let is_here : at c.as_slice-site.result.now ≡ here = ap at (c.as_slice-site.ensures ∙ ap (λ h. h.site) c.state.ensures) ∙ sym same in
+    let g0 = c.args.room.now.gather in
+    let remote = c.args.room.now.remote in
+    let b = Some (happens e asker) in
+    let some : b ≡ (heard here g0 came.0).brought = sym (ap taken_by c.in-Ok-Event.field-0-is) ∙ came.1 ∙ ap (λ h. (heard h g0 came.0).brought) is_here in
+    let grown = c.take_turn.ensures.same_gather ∙ came.2 ∙ ap (λ h. (heard h g0 came.0).gathered) is_here in
+    let first = idle s remote quiet in
+    IfOk-weaker c.take_turn.result _ _
+    (λ stop did.
+    let were = one_heard here g0 _ came.0 b did.0 some grown (none_arrive did.0 did.5) in (
+      received came.0 b ∷ did.0,
+      did.1,
+      did.2,
+      did.3,
+      turn_stops here first came.0 b did.0 (none_arrive did.0 did.5) ∙ ap (λ stopped. stopped ∷ []) did.4,
+      did.6,
+      were.0,
+      were.1,
+      ran_event here came.0 e asker did.0 s remote quiet _ none_begun _ _ _ idles (tended_grew here came.0 b _ _ _ came.3 c.tend_at.ensures.asked) did.7,
+      did.8,
+    ))
+    (c.take_turn.ensures.ok s here knows same)
+
+pub returns-in-Ok-Event-clause-err : goal.returns-in-Ok-Event-clause-err
+returns-in-Ok-Event-clause-err g c = λ s here quiet knows same idles.
+    let e = c.in-Ok-Event.event in
+    let asker = c.in-Ok-Event.asker in
+    let came = c.in-Ok-Event.ensures.came in
+    let at : List (List ℕ) → Here = λ names. record { me = c.args.me; site = names } in
+    let is_here : at c.as_slice-site.result.now ≡ here = ap at (c.as_slice-site.ensures ∙ ap (λ h. h.site) c.state.ensures) ∙ sym same in
+    let g0 = c.args.room.now.gather in
+    let remote = c.args.room.now.remote in
+    let b = Some (happens e asker) in
+    let some : b ≡ (heard here g0 came.0).brought = sym (ap taken_by c.in-Ok-Event.field-0-is) ∙ came.1 ∙ ap (λ h. (heard h g0 came.0).brought) is_here in
+    let first = idle s remote quiet in
+    IfErr-weaker c.take_turn.result _ _
+    (λ so did.
+    let none = none_arrive did.0 did.3 in
+    let one = turn_stops here first came.0 b did.0 none in (
+      received came.0 b ∷ did.0,
+      did.1,
+      did.2,
+      (one_heard here g0 _ came.0 b did.0 some refl none).0,
+      ran_event here came.0 e asker did.0 s remote quiet did.1 did.2 _ _ _ idles (tended_grew here came.0 b _ _ _ came.3 c.tend_at.ensures.asked) did.4,
+      did.5 (stops here first (received came.0 b ∷ did.0)) 1 (subst (λ l. Receives 1 l) (sym one) (one_receive (stops_by (Some e) s))),
+    ))
+    (c.take_turn.ensures.err s here knows same)
+
+pub returns-in-Ok-Event-clause-wire_fault : goal.returns-in-Ok-Event-clause-wire_fault
+returns-in-Ok-Event-clause-wire_fault g c = λ is. absurd (c.take_turn.ensures.no_wire is)
+
+-- an errand
+
+pub relay-requires-clause-right : goal.relay-requires-clause-right
+relay-requires-clause-right g c =
+    subst (IsRightCame (length c.as_slice-site.result.now) c.args.me) c.in-Ok-Errand.field-0-is c.in-Ok-Errand.ensures.right
+
+pub returns-in-Ok-clause-ok : goal.returns-in-Ok-clause-ok
+returns-in-Ok-clause-ok g c = λ s here quiet knows same idles.
+    let e = c.in-Ok-Errand.errand in
+    let came = c.in-Ok-Errand.ensures.came in
+    let at : List (List ℕ) → Here = λ names. record { me = c.args.me; site = names } in
+    let is_here : at c.as_slice-site.result.now ≡ here = ap at (c.as_slice-site.ensures ∙ ap (λ h. h.site) c.state.ensures) ∙ sym same in
+    let g0 = c.args.room.now.gather in
+    let remote = c.args.room.now.remote in
+    let b = Some (to_do e) in
+    let some : b ≡ (heard here g0 came.0).brought = sym (ap taken_by c.in-Ok-Errand.field-0-is) ∙ came.1 ∙ ap (λ h. (heard h g0 came.0).brought) is_here in
+    let did = c.in-Ok.ensures.ok here (sym is_here) in
+    let acts = relayed_on did.0 (relayed here (moment_in did.0) e remote).letter ∷ [] in
+    let were = one_heard here g0 _ came.0 b acts some (came.2 ∙ ap (λ h. (heard h g0 came.0).gathered) is_here) refl in (
+      received came.0 b ∷ acts,
+      s,
+      None,
+      knows,
+      refl,
+      (refl, refl),
+      were.0,
+      were.1,
+      ran_errand here came.0 e did.0 s remote c.relay.new.remote quiet _ _ _ idles did.1 did.2 (tended_grew here came.0 b _ _ _ came.3 (adds_none _)) did.3,
+      kept_none c.args.node.now s knows,
+    )
+
+-- nothing of it was done, or the moment was read
+still_asked : (here : Here) (arrival : Arrival) (e : Errand) (s : Plain) (remote : Asks) (quiet : Option ℕ) (a b c : Telling)
+    → IsIdle here (idle s remote quiet) → Passes a b (inbound arrival ∷ []) → AddsNone b c ⊎ ((m : ℕ) × Gives b c (m ∷ []))
+    → (more : Begun) × IsAtRest (turn s (to_do e ∷ []) remote None) more
+    × Ran here (received arrival (Some (to_do e)) ∷ []) (idle s remote quiet) (turn s (to_do e ∷ []) remote None) more a c
+still_asked here arrival e s remote quiet a b c idles came (inl none) =
+    (none_begun, inl refl, ran_received here s remote quiet arrival (Some (to_do e)) a c idles (adds_then a b c came none))
+still_asked here arrival e s remote quiet a b c idles came (inr gave) =
+    (begun gave.0 None [], inr (e, [], gave.0, refl, refl), record { run = (idles, tt); leads = refl; grew = adds_then a b c came gave.1 })
 
 pub returns-in-Err-clause-err : goal.returns-in-Err-clause-err
-returns-in-Err-clause-err g c = λ s here knows same.
-    let e = c.in-Ok-Event.event in
-    let came = c.in-Ok-Event.ensures.came in
+returns-in-Err-clause-err g c = λ s here quiet knows same idles.
+    let e = c.in-Ok-Errand.errand in
+    let came = c.in-Ok-Errand.ensures.came in
     let at : List (List ℕ) → Here = λ names. record { me = c.args.me; site = names } in
     let is_here : at c.as_slice-site.result.now ≡ here = ap at (c.as_slice-site.ensures ∙ ap (λ h. h.site) c.state.ensures) ∙ sym same in
     let g0 = c.args.room.now.gather in
-    let some : Some e ≡ (heard here g0 came.0).event = sym (ap taken_by c.in-Ok-Event.field-0-is) ∙ came.1 ∙ ap (λ h. (heard h g0 came.0).event) is_here in
-    let cut = c.in-Err.ensures.cut s here knows same in
-    let bs = stops_by (Some e) s ∷ [] in
-    let old = c.args.node.now in
-    let new = c.take_event-taken.new.node in
-    let t = turn s (e ∷ []) in (
-      received came.0 (Some e) ∷ [],
-      t,
-      begun cut.0 cut.1,
+    let remote = c.args.room.now.remote in
+    let b = Some (to_do e) in
+    let some : b ≡ (heard here g0 came.0).brought = sym (ap taken_by c.in-Ok-Errand.field-0-is) ∙ came.1 ∙ ap (λ h. (heard h g0 came.0).brought) is_here in
+    let kept = kept_none c.args.node.now s knows in
+    let did = still_asked here came.0 e s remote quiet _ _ _ idles came.3 c.in-Err.ensures.err in (
+      received came.0 b ∷ [],
+      turn s (to_do e ∷ []) remote None,
+      did.0,
       (some, tt),
-      ran_then here (received came.0 (Some e) ∷ []) [] (idle s) t _ (begun cut.0 cut.1) _ _ _
-          (ran_received here s came.0 (Some e) _ _ (tended_grew here came.0 (Some e) _ _ _ came.3 c.tend_at.ensures.asked))
-          (ran_cut here t (begun cut.0 cut.1) _ _ cut.4),
-      subst (λ f. Ends old s [] f 1 bs t (begun cut.0 cut.1) new) (sym c.end_of.ensures)
-          (cut_ends c.in-Err.cut bs t (begun cut.0 cut.1) old new s [] (KeepsTill old new s) (λ done failed kept. kept)
-          (λ memory. let known = cut.2 (ap Err memory) in (known.1.0, known.1.1.1, inr (e, [], cut.0, refl, ap (begun cut.0) known.0, known.1.2)))
-          (λ which disk. (e, [], cut.0, cut.1, refl, refl, cut.3 which (ap Err disk)))
-          (one_receive (stops_by (Some e) s))),
+      did.2,
+      ((s, knows.1, inl (did.1, refl, kept.0)), one_receive (stops_by None s)),
     )
-
-pub returns-in-Err-take_back-clause-err : goal.returns-in-Err-take_back-clause-err
-returns-in-Err-take_back-clause-err g c = λ s here knows same.
-    let e = c.in-Ok-Event.event in
-    let came = c.in-Ok-Event.ensures.came in
-    let at : List (List ℕ) → Here = λ names. record { me = c.args.me; site = names } in
-    let is_here : at c.as_slice-site.result.now ≡ here = ap at (c.as_slice-site.ensures ∙ ap (λ h. h.site) c.state.ensures) ∙ sym same in
-    let g0 = c.args.room.now.gather in
-    let some : Some e ≡ (heard here g0 came.0).event = sym (ap taken_by c.in-Ok-Event.field-0-is) ∙ came.1 ∙ ap (λ h. (heard h g0 came.0).event) is_here in
-    let ok = c.in-Ok.ensures.ok s here knows same in
-    let cut = c.in-Err-take_back.ensures.cut (after_event ok.0 e s) here ok.3 (same ∙ ap at (sym c.in-Ok.ensures.leaves.site)) in
-    let acts = received came.0 (Some e) ∷ took ok.0 ok.1 ∷ cut.0 in
-    let one = turn_stops here s came.0 (Some e) ok.0 ok.1 cut.0 cut.3 in
-    let bs = stops here (idle s) acts in
-    let old = c.args.node.now in
-    let mid = c.take_event-taken.new.node in
-    let new = c.take_back.new.node in
-    let back = c.take_event-taken.new.outbox.back.items in
-    let ys = run_calls here (turn (after_event ok.0 e s) (map event_back back)) cut.0 in
-    let xs = run_calls here (idle s) acts in
-    let all : xs ≡ calls ok.0 e s ++ ys = turn_calls here came.0 ok.0 ok.1 cut.0 s e c.clear.new.self.items back c.clear.ensures.items ok.2 in
-    let lift : (done : List (Stepped (List ℕ))) (failed : Kept) → KeptBehind mid new (after_event ok.0 e s) ys done failed
-    → KeptBehind old new s xs done failed =
-    λ done failed kept.
-    behind_both old new s xs (calls ok.0 e s) ys done failed all (kept_then old mid new s (calls ok.0 e s) (ys ++ done) failed ok.6 kept) in (
-      acts,
-      cut.1,
-      cut.2,
-      (one_heard here g0 _ came.0 (Some e) (took ok.0 ok.1 ∷ cut.0) some refl cut.3).0,
-      ran_turn here came.0 ok.0 ok.1 cut.0 s e c.clear.new.self.items _ cut.1 cut.2 _ _ _ _ c.clear.ensures.items ok.2 ok.4
-          (tended_grew here came.0 (Some e) _ _ _ came.3 c.tend_at.ensures.asked) ok.5 cut.6,
-      subst (λ f. Ends old s xs f 1 bs cut.1 cut.2 new) (sym c.end_of-in-Err-take_back.ensures)
-          (cut_ends c.in-Err-take_back.cut bs cut.1 cut.2 old new s xs (KeptBehind mid new (after_event ok.0 e s) ys) lift
-          (λ memory. let known = cut.4 (ap Err memory) in (known.0, known.1.1, known.2))
-          (λ which disk. cut.5 which (ap Err disk))
-          (subst (λ l. Receives 1 l) (sym one) (one_receive (stops_by (Some e) s)))),
-    )
-
--- a cut is the end
-
-pub returns-in-Err-clause-early : goal.returns-in-Err-clause-early
-returns-in-Err-clause-early g c = subst (λ f. IsTrue (cuts_off f)) (sym c.end_of.ensures) (cut_early c.in-Err.cut)
-
-pub returns-in-Err-take_back-clause-early : goal.returns-in-Err-take_back-clause-early
-returns-in-Err-take_back-clause-early g c = subst (λ f. IsTrue (cuts_off f)) (sym c.end_of-in-Err-take_back.ensures) (cut_early c.in-Err-take_back.cut)
 
 -- what each way out leaves
 
@@ -172,6 +232,9 @@ returns-in-Ok-Ignored-clause-leaves g c = none_left _ _ _ (λ which. no_error _ 
 pub returns-in-Ok-Piece-clause-leaves : goal.returns-in-Ok-Piece-clause-leaves
 returns-in-Ok-Piece-clause-leaves g c = none_left _ _ _ (λ which. no_error _ _) c.requires.sound c.requires.running
 
+pub returns-in-Ok-clause-leaves : goal.returns-in-Ok-clause-leaves
+returns-in-Ok-clause-leaves g c = none_left _ _ _ (λ which. no_error _ _) c.requires.sound c.requires.running
+
 pub returns-in-Err-Wire-clause-leaves : goal.returns-in-Err-Wire-clause-leaves
 returns-in-Err-Wire-clause-leaves g c = none_left _ _ _ wire_no_disk c.requires.sound c.requires.running
 
@@ -179,42 +242,4 @@ pub returns-in-Err-Memory-clause-leaves : goal.returns-in-Err-Memory-clause-leav
 returns-in-Err-Memory-clause-leaves g c = none_left _ _ _ (memory_no_disk _) c.requires.sound c.requires.running
 
 pub returns-in-Err-clause-leaves : goal.returns-in-Err-clause-leaves
-returns-in-Err-clause-leaves g c = left_by _ _ _ _ _ _ (λ which is. disk_cut which c.in-Err.cut (sym c.end_of.ensures ∙ is)) c.in-Err.ensures.leaves
-
-pub returns-in-Err-take_back-clause-leaves : goal.returns-in-Err-take_back-clause-leaves
-returns-in-Err-take_back-clause-leaves g c =
-    left_by _ _ _ _ _ _ (λ which is. disk_cut which c.in-Err-take_back.cut (sym c.end_of-in-Err-take_back.ensures ∙ is))
-    (then_left _ _ _ _ _ _ c.in-Ok.ensures.leaves c.in-Err-take_back.ensures.leaves)
-
-pub returns-clause-leaves : goal.returns-clause-leaves
-returns-clause-leaves g c = left_as _ _ _ _ _ _ (λ which. no_error _ _) (then_left _ _ _ _ _ _ c.in-Ok.ensures.leaves c.in_default.ensures.leaves)
-
-pub returns-clause-ok : goal.returns-clause-ok
-returns-clause-ok g c = λ s here knows same.
-    let e = c.in-Ok-Event.event in
-    let came = c.in-Ok-Event.ensures.came in
-    let at : List (List ℕ) → Here = λ names. record { me = c.args.me; site = names } in
-    let is_here : at c.as_slice-site.result.now ≡ here = ap at (c.as_slice-site.ensures ∙ ap (λ h. h.site) c.state.ensures) ∙ sym same in
-    let g0 = c.args.room.now.gather in
-    let some : Some e ≡ (heard here g0 came.0).event = sym (ap taken_by c.in-Ok-Event.field-0-is) ∙ came.1 ∙ ap (λ h. (heard h g0 came.0).event) is_here in
-    let ok = c.in-Ok.ensures.ok s here knows same in
-    let rest = c.in_default.ensures.ok (after_event ok.0 e s) here ok.3 (same ∙ ap at (sym c.in-Ok.ensures.leaves.site)) in
-    let old = c.args.node.now in
-    let mid = c.take_event-taken.new.node in
-    let new = c.take_back.new.node in
-    let back = c.take_event-taken.new.outbox.back.items in
-    let ys = run_calls here (turn (after_event ok.0 e s) (map event_back back)) rest.0 in
-    let grown = came.2 ∙ ap (λ h. (heard h g0 came.0).gathered) is_here in
-    let were = one_heard here g0 _ came.0 (Some e) (took ok.0 ok.1 ∷ rest.0) some grown rest.2 in (
-      received came.0 (Some e) ∷ took ok.0 ok.1 ∷ rest.0,
-      rest.1,
-      rest.3,
-      turn_stops here s came.0 (Some e) ok.0 ok.1 rest.0 rest.2 ∙ ap (λ b. b ∷ []) (sym (c.in-Ok.ensures.halts s knows)),
-      were.0,
-      were.1,
-      ran_turn here came.0 ok.0 ok.1 rest.0 s e c.clear.new.self.items _ (idle rest.1) none_begun _ _ _ _ c.clear.ensures.items ok.2 ok.4
-          (tended_grew here came.0 (Some e) _ _ _ came.3 c.tend_at.ensures.asked) ok.5 rest.4,
-      subst (λ (l : List (Stepped (List ℕ))). Keeps old new s l)
-          (sym (turn_calls here came.0 ok.0 ok.1 rest.0 s e c.clear.new.self.items back c.clear.ensures.items ok.2))
-          (kept_both old mid new s (calls ok.0 e s) ys ok.6 rest.5),
-    )
+returns-in-Err-clause-leaves g c = none_left _ _ _ (memory_no_disk _) c.requires.sound c.requires.running

@@ -20,66 +20,72 @@ loop-left-init g c = record {
   room = c.requires.room;
   heard = refl;
   borrows = refl;
-  ran = λ s here knows same. ([], s, refl, omega arith, knows, tt, refl, ran_none here _ _, kept_none c.args.node.now s knows);
+  ran = λ s here quiet knows same idles. ([], s, quiet, refl, omega arith, knows, idles, tt, refl, ran_none here _ _, kept_none c.args.node.now s knows);
 }
 
 pub returns-in-Ok-true-clause-run : goal.returns-in-Ok-true-clause-run
-returns-in-Ok-true-clause-run g c = λ s here knows same.
-    let before = c.loop-left.invariant.ran s here knows same in
+returns-in-Ok-true-clause-run g c = λ s here quiet knows same idles.
+    let before = c.loop-left.invariant.ran s here quiet knows same idles in
     let at : List (List ℕ) → Here = λ names. record { me = c.args.me; site = names } in
-    let ok = c.in-Ok-true.ensures.ok before.1 here before.4 (same ∙ ap at (sym c.loop-left.invariant.leaves.site)) in
+    let ok = c.in-Ok-true.ensures.ok before.1 here before.2 before.5 (same ∙ ap at (sym c.loop-left.invariant.leaves.site)) before.6 in
+    let first = idle s c.args.room.now.remote quiet in
+    let mid = idle before.1 c.loop-left.room.remote before.2 in
+    let last = idle ok.1 c.turn.new.room.remote ok.2 in
     let g0 = c.args.room.now.gather in
-    let xs = stops here (idle s) before.0 in
-    let all : stops here (idle s) (before.0 ++ ok.0) ≡ xs ++ true ∷ [] =
-    stops_then here before.0 ok.0 (idle s) (idle before.1) before.7.leads
-    ∙ ap (λ (l : List Bool). xs ++ l) (ok.3 ∙ ap (λ b. b ∷ []) c.in-Ok-true.field-0-test) in
-    let rest = run_calls here (idle before.1) ok.0 in
-    let both = run_both here c.args.node.now c.loop-left.node c.turn.new.node before.0 s [] (idle before.1) rest before.7.run before.7.leads before.8 ok.7 in
+    let xs = stops here first before.0 in
+    let all : stops here first (before.0 ++ ok.0) ≡ xs ++ true ∷ [] =
+    stops_then here before.0 ok.0 first mid before.9.leads
+    ∙ ap (λ (l : List Bool). xs ++ l) (ok.4 ∙ ap (λ b. b ∷ []) c.in-Ok-true.field-0-test) in
+    let rest = run_calls here mid ok.0 in
+    let both = run_both here c.args.node.now c.loop-left.node c.turn.new.node before.0 first mid rest before.9.run before.9.leads
+    before.10 ok.9 in
     let kept = subst (λ (l : List (Stepped (List ℕ))). Keeps c.args.node.now c.turn.new.node s l)
-    (sym (calls_then here before.0 ok.0 (idle s) (idle before.1) before.7.leads)) both in (
+    (sym (calls_then here before.0 ok.0 first mid before.9.leads)) both in (
       before.0 ++ ok.0,
-      idle ok.1,
+      last,
       none_begun,
-      heard_on here g0 _ before.0 ok.0 before.5 before.6 ok.4,
-      ran_then here before.0 ok.0 (idle s) (idle before.1) (idle ok.1) none_begun _ _ _ before.7 ok.6,
+      heard_on here g0 _ before.0 ok.0 before.7 before.8 ok.6,
+      ran_then here before.0 ok.0 first mid last none_begun _ _ _ before.9 ok.8,
       (
+        ok.5,
         refl,
-        refl,
-        ok.2.1,
-        (xs, all, before.2, omega (arith, ap (λ (l : List Bool). length l) all, length-append xs (true ∷ []), before.3, c.loop-left-test.true)),
+        ok.3.1,
+        (xs, all, before.3, omega (arith, ap (λ (l : List Bool). length l) all, length-append xs (true ∷ []), before.4, c.loop-left-test.true)),
         subst (λ (l : List (Stepped (List ℕ))). KeepsTill c.args.node.now c.turn.new.node s l None)
-            (sym (append-nil (run_calls here (idle s) (before.0 ++ ok.0)))) kept.0,
+            (sym (append-nil (run_calls here first (before.0 ++ ok.0)))) kept.0,
       ),
     )
 
 pub returns-in-Err-clause-run : goal.returns-in-Err-clause-run
-returns-in-Err-clause-run g c = λ s here knows same.
-    let before = c.loop-left.invariant.ran s here knows same in
+returns-in-Err-clause-run g c = λ s here quiet knows same idles.
+    let before = c.loop-left.invariant.ran s here quiet knows same idles in
     let at : List (List ℕ) → Here = λ names. record { me = c.args.me; site = names } in
-    let err = c.in-Err.ensures.err before.1 here before.4 (same ∙ ap at (sym c.loop-left.invariant.leaves.site)) in
+    let err = c.in-Err.ensures.err before.1 here before.2 before.5 (same ∙ ap at (sym c.loop-left.invariant.leaves.site)) before.6 in
+    let first = idle s c.args.room.now.remote quiet in
+    let mid_turn = idle before.1 c.loop-left.room.remote before.2 in
     let g0 = c.args.room.now.gather in
-    let xs = stops here (idle s) before.0 in
-    let all = stops_then here before.0 err.0 (idle s) (idle before.1) before.7.leads in
+    let xs = stops here first before.0 in
+    let all = stops_then here before.0 err.0 first mid_turn before.9.leads in
     let old = c.args.node.now in
     let mid = c.loop-left.node in
     let new = c.turn.new.node in
-    let front = run_calls here (idle s) before.0 in
-    let rest = run_calls here (idle before.1) err.0 in
+    let front = run_calls here first before.0 in
+    let rest = run_calls here mid_turn err.0 in
     let lift : (done : List (Stepped (List ℕ))) (failed : Kept) → KeptBehind mid new before.1 rest done failed
     → KeptBehind old new s (front ++ rest) done failed =
     λ done failed kept.
     subst (λ (l : List (Stepped (List ℕ))). KeepsTill old new s l failed) (sym (append_assoc front rest done))
-    (run_then here old mid new before.0 s [] (idle before.1) (rest ++ done) failed before.7.run before.7.leads before.8 kept) in
-    let ends = ends_then c.in-Err.end c.args.turns xs (stops here (idle before.1) err.0) err.1 err.2 old mid new s before.1 front rest
-    c.in-Err.ensures.early before.2 (omega (arith, before.3, c.loop-left-test.true)) lift err.5 in (
+    (run_then here old mid new before.0 first mid_turn (rest ++ done) failed before.9.run before.9.leads before.10 kept) in
+    let ends = ends_then here c.in-Err.end c.args.turns xs (stops here mid_turn err.0) err.1 err.2 old mid new s before.1 front rest
+    c.in-Err.ensures.early before.3 (omega (arith, before.4, c.loop-left-test.true)) lift err.5 in (
       before.0 ++ err.0,
       err.1,
       err.2,
-      heard_on here g0 _ before.0 err.0 before.5 before.6 err.3,
-      ran_then here before.0 err.0 (idle s) (idle before.1) err.1 err.2 _ _ _ before.7 err.4,
-      subst (λ (l : List (Stepped (List ℕ))). Ends old s l c.in-Err.end c.args.turns (stops here (idle s) (before.0 ++ err.0)) err.1 err.2 new)
-          (sym (calls_then here before.0 err.0 (idle s) (idle before.1) before.7.leads))
-          (subst (λ (l : List Bool). Ends old s (front ++ rest) c.in-Err.end c.args.turns l err.1 err.2 new) (sym all) ends),
+      heard_on here g0 _ before.0 err.0 before.7 before.8 err.3,
+      ran_then here before.0 err.0 first mid_turn err.1 err.2 _ _ _ before.9 err.4,
+      subst (λ (l : List (Stepped (List ℕ))). Ends here old s l c.in-Err.end c.args.turns (stops here first (before.0 ++ err.0)) err.1 err.2 new)
+          (sym (calls_then here before.0 err.0 first mid_turn before.9.leads))
+          (subst (λ (l : List Bool). Ends here old s (front ++ rest) c.in-Err.end c.args.turns l err.1 err.2 new) (sym all) ends),
     )
 
 pub returns-in-Err-clause-wire_fault : goal.returns-in-Err-clause-wire_fault
@@ -100,45 +106,51 @@ loop-left-preserved g c = record {
   room = omega (arith, c.loop-left.invariant.room, c.in-Ok-false.ensures.room);
   heard = c.in-Ok-false.ensures.heard (λ is. cc) ∙ c.loop-left.invariant.heard;
   borrows = c.in-Ok-false.ensures.borrows ∙ c.loop-left.invariant.borrows;
-  ran = λ s here knows same.
-      let before = c.loop-left.invariant.ran s here knows same in
+  ran = λ s here quiet knows same idles.
+      let before = c.loop-left.invariant.ran s here quiet knows same idles in
       let at : List (List ℕ) → Here = λ names. record { me = c.args.me; site = names } in
-      let ok = c.in-Ok-false.ensures.ok before.1 here before.4 (same ∙ ap at (sym c.loop-left.invariant.leaves.site)) in
+      let ok = c.in-Ok-false.ensures.ok before.1 here before.2 before.5 (same ∙ ap at (sym c.loop-left.invariant.leaves.site)) before.6 in
+      let first = idle s c.args.room.now.remote quiet in
+      let mid = idle before.1 c.loop-left.room.remote before.2 in
+      let last = idle ok.1 c.turn.new.room.remote ok.2 in
       let g0 = c.args.room.now.gather in
-      let xs = stops here (idle s) before.0 in
-      let all : stops here (idle s) (before.0 ++ ok.0) ≡ xs ++ false ∷ [] =
-      stops_then here before.0 ok.0 (idle s) (idle before.1) before.7.leads
-      ∙ ap (λ (l : List Bool). xs ++ l) (ok.3 ∙ ap (λ b. b ∷ []) c.in-Ok-false.field-0-test) in (
+      let xs = stops here first before.0 in
+      let all : stops here first (before.0 ++ ok.0) ≡ xs ++ false ∷ [] =
+      stops_then here before.0 ok.0 first mid before.9.leads
+      ∙ ap (λ (l : List Bool). xs ++ l) (ok.4 ∙ ap (λ b. b ∷ []) c.in-Ok-false.field-0-test) in (
         before.0 ++ ok.0,
         ok.1,
-        subst (λ (l : List Bool). NoneStops l) (sym all) (none_both xs (false ∷ []) before.2 refl),
-        omega (arith, ap (λ (l : List Bool). length l) all, length-append xs (false ∷ []), before.3, c.loop-left-test.true),
         ok.2,
-        heard_on here g0 _ before.0 ok.0 before.5 before.6 ok.4,
-        ok.5 ∙ gathered_on here g0 _ before.0 ok.0 before.6,
-        ran_then here before.0 ok.0 (idle s) (idle before.1) (idle ok.1) none_begun _ _ _ before.7 ok.6,
+        subst (λ (l : List Bool). NoneStops l) (sym all) (none_both xs (false ∷ []) before.3 refl),
+        omega (arith, ap (λ (l : List Bool). length l) all, length-append xs (false ∷ []), before.4, c.loop-left-test.true),
+        ok.3,
+        ok.5,
+        heard_on here g0 _ before.0 ok.0 before.7 before.8 ok.6,
+        ok.7 ∙ gathered_on here g0 _ before.0 ok.0 before.8,
+        ran_then here before.0 ok.0 first mid last none_begun _ _ _ before.9 ok.8,
         subst (λ (l : List (Stepped (List ℕ))). Keeps c.args.node.now c.turn.new.node s l)
-            (sym (calls_then here before.0 ok.0 (idle s) (idle before.1) before.7.leads))
-            (run_both here c.args.node.now c.loop-left.node c.turn.new.node before.0 s [] (idle before.1) (run_calls here (idle before.1) ok.0) before.7.run
-            before.7.leads before.8 ok.7),
+            (sym (calls_then here before.0 ok.0 first mid before.9.leads))
+            (run_both here c.args.node.now c.loop-left.node c.turn.new.node before.0 first mid (run_calls here mid ok.0)
+            before.9.run before.9.leads before.10 ok.9),
       );
 }
 
 pub returns-clause-run : goal.returns-clause-run
-returns-clause-run g c = λ s here knows same.
-    let before = c.loop-left.invariant.ran s here knows same in (
+returns-clause-run g c = λ s here quiet knows same idles.
+    let before = c.loop-left.invariant.ran s here quiet knows same idles in
+    let first = idle s c.args.room.now.remote quiet in (
       before.0,
-      idle before.1,
+      idle before.1 c.loop-left.room.remote before.2,
       none_begun,
-      before.5,
       before.7,
+      before.9,
       (
+        before.6,
         refl,
-        refl,
-        before.4.1,
-        before.2,
-        omega (arith, before.3, c.loop-left-test.false),
-        subst (λ (l : List (Stepped (List ℕ))). KeepsTill c.args.node.now c.loop-left.node s l None) (sym (append-nil (run_calls here (idle s) before.0)))
-            before.8.0,
+        before.5.1,
+        before.3,
+        omega (arith, before.4, c.loop-left-test.false),
+        subst (λ (l : List (Stepped (List ℕ))). KeepsTill c.args.node.now c.loop-left.node s l None) (sym (append-nil (run_calls here first before.0)))
+            before.10.0,
       ),
     )

@@ -1,8 +1,9 @@
 use Rattle.std.proofs.Common.{ap, ◌∙◌}
+use Rattle.std.proofs.lemmas.Result.{IfOk-weaker}
 use Rattle.nqs_pieces.specs.Gathering.{fed, key_of}
 use Rattle.nqs_serve.specs.Events.{Here}
-use Rattle.nqs_serve.specs.Gathers.{event_fed, event_made, taken_by}
-use Rattle.nqs_serve.proofs.Gathers.{came_taken, fed_more, fed_whole}
+use Rattle.nqs_serve.specs.Gathers.{brought_fed, brought_made}
+use Rattle.nqs_serve.proofs.Gathers.{fed_more, fed_whole}
 use Rattle.nqs_serve.proofs.gathering.feed.Goals as goal
 
 pub returns-in-Ok-NotYet-clause-event : goal.returns-in-Ok-NotYet-clause-event
@@ -22,12 +23,11 @@ returns-clause-event c =
     let here : Here = record { me = c.args.me; site = c.args.site.now } in
     let made = fed_whole here c.of-key.result c.args.piece c.args.gather.now c.feed.new.self _ _ c.in-Ok-Whole.field-0 c.in-Ok-Whole.field-0-is
     c.new-whole.ensures.items c.in-Ok-Whole.ensures in
-    ap taken_by c.came_as.ensures ∙ came_taken c.in-Ok.sorted ∙ c.in-Ok.ensures.event
-    ∙ ap (event_made here c.of-key.result) c.as_slice.ensures.value ∙ made.0
-    ∙ ap (λ key. event_fed here key (fed c.args.piece c.args.gather.now).whole) c.of-key.ensures
+    IfOk-weaker c.take_made.result _ _ (λ came is. is ∙ ap (brought_made here c.of-key.result) c.as_slice.ensures.value ∙ made.0
+    ∙ ap (λ key. brought_fed here key (fed c.args.piece c.args.gather.now).whole) c.of-key.ensures) c.take_made.ensures.event
 
 pub returns-clause-gathered : goal.returns-clause-gathered
 returns-clause-gathered c =
     let here : Here = record { me = c.args.me; site = c.args.site.now } in
-    (fed_whole here c.of-key.result c.args.piece c.args.gather.now c.feed.new.self _ _ c.in-Ok-Whole.field-0 c.in-Ok-Whole.field-0-is
-    c.new-whole.ensures.items c.in-Ok-Whole.ensures).1
+    IfOk-weaker c.take_made.result _ _ (λ came is. (fed_whole here c.of-key.result c.args.piece c.args.gather.now c.feed.new.self _ _
+    c.in-Ok-Whole.field-0 c.in-Ok-Whole.field-0-is c.new-whole.ensures.items c.in-Ok-Whole.ensures).1) c.take_made.ensures.event

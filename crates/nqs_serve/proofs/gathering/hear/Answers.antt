@@ -1,11 +1,8 @@
-use Rattle.std.proofs.Common.{◌≤◌, length, IsTrue, Ok, refl, sym, ap, subst, ◌∙◌, arith}
+use Rattle.std.proofs.Common.{◌≤◌, length, Ok, refl, sym, ap, subst, ◌∙◌, arith}
 use Rattle.std.proofs.lemmas.Result.{IfOk-weaker, on_ok_weaker}
-use Rattle.nqs_types.specs.declared.event.Event.{Event}
-use Rattle.nqs_rules.specs.Sane.{is_sane_event}
 use Rattle.nqs_serve.specs.Events.{Here}
-use Rattle.nqs_serve.specs.Gathers.{Heard, taken_by, IfTaken}
-use Rattle.nqs_serve.specs.Sends.{is_right_event}
-use Rattle.nqs_serve.proofs.Gathers.{came_taken, came_has, fault_taken, fault_has, heard_long, heard_read, heard_unread}
+use Rattle.nqs_serve.specs.Gathers.{Heard, taken_by, IsRightCame}
+use Rattle.nqs_serve.proofs.Gathers.{heard_long, heard_read, heard_unread}
 use Rattle.nqs_serve.proofs.gathering.hear.Goals as goal
 
 -- it is too long
@@ -13,7 +10,7 @@ use Rattle.nqs_serve.proofs.gathering.hear.Goals as goal
 pub returns-then-bytes-gt-DATAGRAM-clause-event : goal.returns-then-bytes-gt-DATAGRAM-clause-event
 returns-then-bytes-gt-DATAGRAM-clause-event c =
     let here : Here = record { me = c.args.me; site = c.args.site.now } in
-    sym (ap (λ (h : Heard). h.event) (heard_long here c.args.gather.now c.args.bytes.now (omega (arith, c.if-bytes-gt-DATAGRAM.true))))
+    sym (ap (λ (h : Heard). h.brought) (heard_long here c.args.gather.now c.args.bytes.now (omega (arith, c.if-bytes-gt-DATAGRAM.true))))
 
 pub returns-then-bytes-gt-DATAGRAM-clause-gathered : goal.returns-then-bytes-gt-DATAGRAM-clause-gathered
 returns-then-bytes-gt-DATAGRAM-clause-gathered c =
@@ -22,34 +19,23 @@ returns-then-bytes-gt-DATAGRAM-clause-gathered c =
 
 -- it is no message
 
-pub returns-in-Ok-unread-clause-event : goal.returns-in-Ok-unread-clause-event
-returns-in-Ok-unread-clause-event c =
+pub returns-in-Err-clause-event : goal.returns-in-Err-clause-event
+returns-in-Err-clause-event c =
     let here : Here = record { me = c.args.me; site = c.args.site.now } in
     let short : length c.args.bytes.now ≤ 49152 = omega (arith, c.if-bytes-gt-DATAGRAM.false) in
-    let has = c.in-Ok-unread.ensures in
-    ap taken_by c.came_as.ensures ∙ came_taken c.in-Ok-unread.sorted ∙ fault_taken c.in-Ok-unread.sorted c.in-Err.fault has
-    ∙ sym (ap (λ (h : Heard). h.event)
-    (heard_unread here c.args.gather.now c.args.bytes.now c.in-Err.fault short (sym (c.in-Err.ensures.answer has.1))))
+    IfOk-weaker c.passed_over.result _ _ (λ came is. ap taken_by is.0 ∙ sym (ap (λ (h : Heard). h.brought)
+    (heard_unread here c.args.gather.now c.args.bytes.now c.in-Err.fault short (sym (c.in-Err.ensures.answer is.1))))) c.passed_over.ensures
 
-pub returns-in-Ok-unread-clause-gathered : goal.returns-in-Ok-unread-clause-gathered
-returns-in-Ok-unread-clause-gathered c =
+pub returns-in-Err-clause-gathered : goal.returns-in-Err-clause-gathered
+returns-in-Err-clause-gathered c =
     let here : Here = record { me = c.args.me; site = c.args.site.now } in
     let short : length c.args.bytes.now ≤ 49152 = omega (arith, c.if-bytes-gt-DATAGRAM.false) in
-    let has = c.in-Ok-unread.ensures in
-    sym (ap (λ (h : Heard). h.gathered)
-    (heard_unread here c.args.gather.now c.args.bytes.now c.in-Err.fault short (sym (c.in-Err.ensures.answer has.1))))
+    IfOk-weaker c.passed_over.result _ _ (λ came is. sym (ap (λ (h : Heard). h.gathered)
+    (heard_unread here c.args.gather.now c.args.bytes.now c.in-Err.fault short (sym (c.in-Err.ensures.answer is.1))))) c.passed_over.ensures
 
-pub returns-in-Ok-unread-clause-sane : goal.returns-in-Ok-unread-clause-sane
-returns-in-Ok-unread-clause-sane c =
-    let sane = λ (e : Event). IsTrue (is_sane_event (length c.args.site.now) e) in
-    subst (λ x. IfTaken x sane) (sym c.came_as.ensures)
-    (came_has sane c.in-Ok-unread.sorted (fault_has sane c.in-Ok-unread.sorted c.in-Err.fault c.in-Ok-unread.ensures))
-
-pub returns-in-Ok-unread-clause-right : goal.returns-in-Ok-unread-clause-right
-returns-in-Ok-unread-clause-right c =
-    let right = λ (e : Event). IsTrue (is_right_event (length c.args.site.now) e) in
-    subst (λ x. IfTaken x right) (sym c.came_as.ensures)
-    (came_has right c.in-Ok-unread.sorted (fault_has right c.in-Ok-unread.sorted c.in-Err.fault c.in-Ok-unread.ensures))
+pub returns-in-Err-clause-right : goal.returns-in-Err-clause-right
+returns-in-Err-clause-right c =
+    IfOk-weaker c.passed_over.result _ _ (λ came is. subst (IsRightCame (length c.args.site.now) c.args.me) (sym is.0) tt) c.passed_over.ensures
 
 -- it is one
 
@@ -64,7 +50,7 @@ pub returns-in-Ok-clause-event : goal.returns-in-Ok-clause-event
 returns-in-Ok-clause-event c =
     let here : Here = record { me = c.args.me; site = c.args.site.now } in
     let short : length c.args.bytes.now ≤ 49152 = omega (arith, c.if-bytes-gt-DATAGRAM.false) in
-    IfOk-weaker c.take_message.result _ _ (λ came is. is ∙ sym (ap (λ (h : Heard). h.event)
+    IfOk-weaker c.take_message.result _ _ (λ came is. is ∙ sym (ap (λ (h : Heard). h.brought)
     (heard_read here c.args.gather.now c.args.bytes.now c.in-Ok.message short (sym (c.in-Ok.ensures.answer refl))))) c.take_message.ensures.event
 
 pub returns-in-Ok-clause-gathered : goal.returns-in-Ok-clause-gathered

@@ -1,25 +1,23 @@
-use Rattle.std.proofs.Common.{length, IsTrue, Ok, sym, ap, subst, ◌∙◌}
+use Rattle.std.proofs.Common.{Ok, sym, ap, subst, ◌∙◌}
 use Rattle.std.proofs.lemmas.Result.{IfOk-weaker, on_ok_weaker}
-use Rattle.nqs_types.specs.declared.event.Event.{Event}
 use Rattle.nqs_types.specs.declared.message.Message.{Message}
-use Rattle.nqs_rules.specs.Sane.{is_sane_event}
 use Rattle.nqs_packets.specs.Values.{MaySend}
-use Rattle.nqs_serve.specs.Events.{Here, event_said}
-use Rattle.nqs_serve.specs.Gathers.{Heard, heard_said, taken_by, IfTaken}
-use Rattle.nqs_serve.specs.Sends.{is_right_event}
-use Rattle.nqs_serve.proofs.Gathers.{came_taken, came_has, said_taken, heard_alone, piece_said}
+use Rattle.nqs_serve.specs.Events.{Here}
+use Rattle.nqs_serve.specs.Gathers.{Heard, brought_said, heard_said, taken_by}
+use Rattle.nqs_serve.proofs.Brought.{taken_said}
+use Rattle.nqs_serve.proofs.Gathers.{heard_alone, piece_said}
 use Rattle.nqs_serve.proofs.gathering.take_message.Goals as goal
 
 -- a piece
 
-pub take_piece-requires : goal.take_piece-requires
-take_piece-requires c = c.requires.form c.in-Ok.piece (piece_said c.args.message c.in-Ok.piece c.in-Ok.ensures.piece)
+pub take_piece-requires-clause-form : goal.take_piece-requires-clause-form
+take_piece-requires-clause-form c = c.requires.form c.in-Ok.piece (piece_said c.args.message c.in-Ok.piece c.in-Ok.ensures.piece)
 
 pub returns-in-Ok-clause-event : goal.returns-in-Ok-clause-event
 returns-in-Ok-clause-event c =
     let here : Here = record { me = c.args.me; site = c.args.site.now } in
     IfOk-weaker c.take_piece.result _ _ (λ came is.
-    is ∙ ap (λ (m : Message). (heard_said here c.args.gather.now (Ok m)).event)
+    is ∙ ap (λ (m : Message). (heard_said here c.args.gather.now (Ok m)).brought)
     (sym (piece_said c.args.message c.in-Ok.piece c.in-Ok.ensures.piece))) c.take_piece.ensures.event
 
 pub returns-in-Ok-clause-gathered : goal.returns-in-Ok-clause-gathered
@@ -31,28 +29,18 @@ returns-in-Ok-clause-gathered c =
 
 -- another message
 
-pub sort_read-requires : goal.sort_read-requires
-sort_read-requires c = subst MaySend (sym c.in-Err.ensures.other.0) c.requires.may
+pub take_read-requires-clause-may : goal.take_read-requires-clause-may
+take_read-requires-clause-may c = subst MaySend (sym c.in-Err.ensures.other.0) c.requires.may
 
-pub returns-in-Ok-sort_read-clause-event : goal.returns-in-Ok-sort_read-clause-event
-returns-in-Ok-sort_read-clause-event c =
+pub returns-in-Err-clause-event : goal.returns-in-Err-clause-event
+returns-in-Err-clause-event c =
     let here : Here = record { me = c.args.me; site = c.args.site.now } in
-    ap taken_by c.came_as.ensures ∙ came_taken c.in-Ok-sort_read.sorted
-    ∙ said_taken here c.in-Err.message c.in-Ok-sort_read.sorted c.in-Ok-sort_read.ensures.sorted
-    ∙ ap (λ (m : Message). event_said here (Ok m)) c.in-Err.ensures.other.0
-    ∙ sym (ap (λ (h : Heard). h.event) (heard_alone here c.args.gather.now c.args.message c.in-Err.ensures.other.1))
+    IfOk-weaker c.take_read.result _ _ (λ came is.
+    ap taken_by is ∙ taken_said here c.in-Err.message ∙ ap (λ (m : Message). brought_said here (Ok m)) c.in-Err.ensures.other.0
+    ∙ sym (ap (λ (h : Heard). h.brought) (heard_alone here c.args.gather.now c.args.message c.in-Err.ensures.other.1))) c.take_read.ensures.came
 
-pub returns-in-Ok-sort_read-clause-gathered : goal.returns-in-Ok-sort_read-clause-gathered
-returns-in-Ok-sort_read-clause-gathered c =
+pub returns-in-Err-clause-gathered : goal.returns-in-Err-clause-gathered
+returns-in-Err-clause-gathered c =
     let here : Here = record { me = c.args.me; site = c.args.site.now } in
-    sym (ap (λ (h : Heard). h.gathered) (heard_alone here c.args.gather.now c.args.message c.in-Err.ensures.other.1))
-
-pub returns-in-Ok-sort_read-clause-sane : goal.returns-in-Ok-sort_read-clause-sane
-returns-in-Ok-sort_read-clause-sane c =
-    let sane = λ (e : Event). IsTrue (is_sane_event (length c.args.site.now) e) in
-    subst (λ x. IfTaken x sane) (sym c.came_as.ensures) (came_has sane c.in-Ok-sort_read.sorted c.in-Ok-sort_read.ensures.sane)
-
-pub returns-in-Ok-sort_read-clause-right : goal.returns-in-Ok-sort_read-clause-right
-returns-in-Ok-sort_read-clause-right c =
-    let right = λ (e : Event). IsTrue (is_right_event (length c.args.site.now) e) in
-    subst (λ x. IfTaken x right) (sym c.came_as.ensures) (came_has right c.in-Ok-sort_read.sorted c.in-Ok-sort_read.ensures.right)
+    IfOk-weaker c.take_read.result _ _ (λ came is.
+    sym (ap (λ (h : Heard). h.gathered) (heard_alone here c.args.gather.now c.args.message c.in-Err.ensures.other.1))) c.take_read.ensures.came

@@ -13,7 +13,7 @@ pub returns-then-not-is_here-clause-event : goal.returns-then-not-is_here-clause
 returns-then-not-is_here-clause-event c =
     let here : Here = record { me = c.args.me; site = c.args.site.now } in
     let away : same_host c.args.me c.args.piece.to ≡ false = sym c.is_here.ensures ∙ c.if-not-is_here.true in
-    sym (ap (λ (h : Heard). h.event) (heard_elsewhere here c.args.gather.now c.args.piece (piece_away here c.args.piece away)))
+    sym (ap (λ (h : Heard). h.brought) (heard_elsewhere here c.args.gather.now c.args.piece (piece_away here c.args.piece away)))
 
 pub returns-then-not-is_here-clause-gathered : goal.returns-then-not-is_here-clause-gathered
 returns-then-not-is_here-clause-gathered c =
@@ -27,7 +27,7 @@ pub returns-then-not-is_known-clause-event : goal.returns-then-not-is_known-clau
 returns-then-not-is_known-clause-event c =
     let here : Here = record { me = c.args.me; site = c.args.site.now } in
     let strange : is_of_site (length c.args.site.now) c.args.piece.from ≡ false = sym c.is_known.ensures ∙ c.if-not-is_known.true in
-    sym (ap (λ (h : Heard). h.event) (heard_elsewhere here c.args.gather.now c.args.piece (piece_strange here c.args.piece strange)))
+    sym (ap (λ (h : Heard). h.brought) (heard_elsewhere here c.args.gather.now c.args.piece (piece_strange here c.args.piece strange)))
 
 pub returns-then-not-is_known-clause-gathered : goal.returns-then-not-is_known-clause-gathered
 returns-then-not-is_known-clause-gathered c =
@@ -42,7 +42,7 @@ returns-clause-event c =
     let here : Here = record { me = c.args.me; site = c.args.site.now } in
     let home : same_host c.args.me c.args.piece.to ≡ true = sym c.is_here.ensures ∙ c.if-not-is_here.false in
     let known : is_of_site (length c.args.site.now) c.args.piece.from ≡ true = sym c.is_known.ensures ∙ c.if-not-is_known.false in
-    IfOk-weaker c.feed.result _ _ (λ came is. is ∙ sym (ap (λ (h : Heard). h.event)
+    IfOk-weaker c.feed.result _ _ (λ came is. is ∙ sym (ap (λ (h : Heard). h.brought)
     (heard_here here c.args.gather.now c.args.piece (piece_known here c.args.piece home known)))) c.feed.ensures.event
 
 pub returns-clause-gathered : goal.returns-clause-gathered

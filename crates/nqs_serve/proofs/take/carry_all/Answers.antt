@@ -3,8 +3,8 @@ use Rattle.nqs_serve.specs.Letters.{letter_of}
 use Rattle.nqs_serve.proofs.take.carry_all.Goals as goal
 
 pub returns-clause-carried : goal.returns-clause-carried
-returns-clause-carried g c = λ here ready.
-    let spelled : c.as_slice-2.result.now ≡ map (letter_of here) c.as_slice.result.now =
-    c.as_slice-2.ensures.value ∙ ready ∙ ap (map (letter_of here)) (sym c.as_slice.ensures.value) in
-    let carried = c.carry.ensures.carried here spelled in
+returns-clause-carried g c = λ here asker ready.
+    let spelled : c.as_slice-2.result.now ≡ map (letter_of here asker) c.as_slice.result.now =
+    c.as_slice-2.ensures.value ∙ ready ∙ ap (map (letter_of here asker)) (sym c.as_slice.ensures.value) in
+    let carried = c.carry.ensures.carried here asker spelled in
     (carried.0, carried.1 ∙ c.as_slice.ensures.value, carried.2, carried.3)

@@ -74,9 +74,9 @@ loop-cut-preserved g c =
           let at : List (List ℕ) → Here = λ names. record { me = c.args.me; site = names } in
           let is_here : at c.as_slice-site.result.now ≡ here =
           ap at (c.as_slice-site.ensures ∙ ap (λ h. h.site) c.state.ensures ∙ did.leaves.site ∙ c.loop-cut.invariant.leaves.site) ∙ sym same in
-          let front = ready_front here c.loop-cut.outbox.out.items _ c.start.new.out.items c.loop-cut.outbox.letters.items grown
+          let front = ready_front here c.args.asker.now c.loop-cut.outbox.out.items _ c.start.new.out.items c.loop-cut.outbox.letters.items grown
           (c.loop-cut.invariant.ready s here knows same ready) in
-          ready_all c.start.new.out.items c.spell.new.outbox.out.items is_here front spelled.spelled;
+          ready_all c.args.asker.now c.start.new.out.items c.spell.new.outbox.out.items is_here front spelled.spelled;
       fewer = omega (arith, c.loop-cut.invariant.fewer, did.fewer c.in-Ok-true.field-0-test, did.one_back, ap comebacks spelled.same);
     }
 
@@ -109,7 +109,7 @@ returns-in-Ok-false-clause-room g c =
 
 pub returns-in-Ok-false-clause-ready : goal.returns-in-Ok-false-clause-ready
 returns-in-Ok-false-clause-ready g c = λ s here knows same ready.
-    c.loop-cut.invariant.ready s here knows same ready ∙ ap (map (letter_of here)) (sym (c.in-Ok-false.ensures.idle c.in-Ok-false.field-0-test).1)
+    c.loop-cut.invariant.ready s here knows same ready ∙ ap (map (letter_of here c.args.asker.now)) (sym (c.in-Ok-false.ensures.idle c.in-Ok-false.field-0-test).1)
 
 pub returns-in-Err-clause-many : goal.returns-in-Err-clause-many
 returns-in-Err-clause-many g c =
@@ -123,7 +123,7 @@ returns-in-Err-clause-room g c =
 
 pub returns-in-Err-clause-ready : goal.returns-in-Err-clause-ready
 returns-in-Err-clause-ready g c = λ s here knows same ready.
-    unless_memory c.in-Err.cut _ (c.loop-cut.invariant.ready s here knows same ready ∙ ap (map (letter_of here)) (sym c.in-Err.ensures.takes.unsaid))
+    unless_memory c.in-Err.cut _ (c.loop-cut.invariant.ready s here knows same ready ∙ ap (map (letter_of here c.args.asker.now)) (sym c.in-Err.ensures.takes.unsaid))
 
 pub returns-in-Err-clause-broke : goal.returns-in-Err-clause-broke
 returns-in-Err-clause-broke g c = λ s which knows failed.

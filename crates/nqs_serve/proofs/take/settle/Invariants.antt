@@ -29,7 +29,7 @@ invariant-loop-cut g l = record {
   room : length l.outbox.back.items + length l.outbox.out.items ≤ deque_capacity l.outbox.back;
   behind : l.outbox.back.items ≡ l.fn.outbox.back.items;
   ready : (s : Plain) (here : Here) → Knows l.fn.node s → here ≡ record { me = l.me; site = (content_of l.fn.node).site }
-      → AreReady here l.fn.outbox.out.items l.fn.outbox.letters.items → AreReady here l.outbox.out.items l.outbox.letters.items;
+      → AreReady here l.asker l.fn.outbox.out.items l.fn.outbox.letters.items → AreReady here l.asker l.outbox.out.items l.outbox.letters.items;
   fewer : starts_left (content_of l.node) + comebacks l.outbox.out.items ≤ starts_left (content_of l.fn.node) + comebacks l.fn.outbox.out.items;
 }
 

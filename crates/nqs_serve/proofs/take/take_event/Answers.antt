@@ -37,7 +37,7 @@ returns-in-Err-Disk-clause-cut g c = λ s here knows same.
     let now = c.now-now.result in
     let e = c.args.event.now in
     let ready = unless_disk c.in-Err-Disk.which c.in-Err-Disk.field-0 _ c.in-Err-Disk.field-0-is (c.in-Err-Disk.ensures.ready s here knows same) in
-    let carried = c.carry_all.ensures.carried here ready in (
+    let carried = c.carry_all.ensures.carried here c.args.asker.now ready in (
       now,
       carried.0,
       λ failed. absurd (disk_is_no_memory _ _ failed),
@@ -61,13 +61,12 @@ returns-in-Ok-clause-ok g c = λ s here knows same.
     let e = c.args.event.now in
     let told = c.in-Ok.ensures.told s e knows c.set_moment.ensures in
     let ready = c.in-Ok.ensures.ready s here knows same in
-    let carried = c.carry_all-in-Ok.ensures.carried here ready in (
-      now,
+    let carried = c.carry_all-in-Ok.ensures.carried here c.args.asker.now ready in (
       carried.0,
       carried.2 ∙ ap (λ (l : List Comeback). l ++ brought_back carried.0) c.in-Ok.ensures.behind,
       told.0,
       carried.1 ∙ told.1,
-      took_grew here now carried.0 _ _ (adds_then _ _ _ c.now-now.ensures.given carried.3),
+      took_grew here now c.args.asker.now carried.0 _ _ (adds_then _ _ _ c.now-now.ensures.given carried.3),
       told.2,
     )
 

@@ -56,7 +56,7 @@ returns-in-Err-clause-room g c =
 
 pub returns-in-Err-clause-ready : goal.returns-in-Err-clause-ready
 returns-in-Err-clause-ready g c = λ s here knows same.
-    unless_memory c.in-Err.cut _ (c.requires.blank ∙ sym (ap (map (letter_of here)) (c.in-Err.ensures.takes.unsaid ∙ c.requires.silent)))
+    unless_memory c.in-Err.cut _ (c.requires.blank ∙ sym (ap (map (letter_of here c.args.asker.now)) (c.in-Err.ensures.takes.unsaid ∙ c.requires.silent)))
 
 pub returns-in-Err-clause-memory : goal.returns-in-Err-clause-memory
 returns-in-Err-clause-memory g c = λ s e knows same failed.
@@ -112,10 +112,10 @@ returns-in-Err-settle-clause-ready g c = λ s here knows same.
     let at : List (List ℕ) → Here = λ names. record { me = c.args.me; site = names } in
     let is_here : at c.as_slice-site.result.now ≡ here =
     ap at (c.as_slice-site.ensures ∙ ap (λ h. h.site) c.state.ensures ∙ c.in-Ok.ensures.leaves.site) ∙ sym same in
-    let before = c.requires.blank ∙ sym (ap (map (letter_of here)) c.requires.silent) in
-    let front = ready_front here c.args.outbox.now.out.items _ c.take.new.out.items c.args.outbox.now.letters.items first.1 before in
+    let before = c.requires.blank ∙ sym (ap (map (letter_of here c.args.asker.now)) c.requires.silent) in
+    let front = ready_front here c.args.asker.now c.args.outbox.now.out.items _ c.take.new.out.items c.args.outbox.now.letters.items first.1 before in
     c.in-Err-settle.ensures.ready _ here first.0 (same ∙ ap at (sym c.in-Ok.ensures.leaves.site))
-    (ready_all c.take.new.out.items c.spell.new.outbox.out.items is_here front c.in_default.ensures.spelled)
+    (ready_all c.args.asker.now c.take.new.out.items c.spell.new.outbox.out.items is_here front c.in_default.ensures.spelled)
 
 pub returns-in-Ok-settle-clause-ready : goal.returns-in-Ok-settle-clause-ready
 returns-in-Ok-settle-clause-ready g c = λ s here knows same.
@@ -123,10 +123,10 @@ returns-in-Ok-settle-clause-ready g c = λ s here knows same.
     let at : List (List ℕ) → Here = λ names. record { me = c.args.me; site = names } in
     let is_here : at c.as_slice-site.result.now ≡ here =
     ap at (c.as_slice-site.ensures ∙ ap (λ h. h.site) c.state.ensures ∙ c.in-Ok.ensures.leaves.site) ∙ sym same in
-    let before = c.requires.blank ∙ sym (ap (map (letter_of here)) c.requires.silent) in
-    let front = ready_front here c.args.outbox.now.out.items _ c.take.new.out.items c.args.outbox.now.letters.items first.1 before in
+    let before = c.requires.blank ∙ sym (ap (map (letter_of here c.args.asker.now)) c.requires.silent) in
+    let front = ready_front here c.args.asker.now c.args.outbox.now.out.items _ c.take.new.out.items c.args.outbox.now.letters.items first.1 before in
     c.in-Ok-settle.ensures.ready _ here first.0 (same ∙ ap at (sym c.in-Ok.ensures.leaves.site))
-    (ready_all c.take.new.out.items c.spell.new.outbox.out.items is_here front c.in_default.ensures.spelled)
+    (ready_all c.args.asker.now c.take.new.out.items c.spell.new.outbox.out.items is_here front c.in_default.ensures.spelled)
 
 pub returns-in-Err-settle-clause-behind : goal.returns-in-Err-settle-clause-behind
 returns-in-Err-settle-clause-behind g c = c.in-Err-settle.ensures.behind ∙ c.in_default.ensures.behind

@@ -1,0 +1,4 @@
+pub mod There
+pub mod AskedAll
+pub mod Steps
+pub mod Sent

@@ -1,0 +1,5 @@
+pub mod Words
+pub mod Places
+pub mod Loads
+pub mod Balance
+pub mod Sent

@@ -1,0 +1,5 @@
+mod Answering
+mod Firsts
+mod Numbers
+mod Session
+mod Short

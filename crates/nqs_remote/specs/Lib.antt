@@ -1,0 +1,3 @@
+pub mod Remote
+pub mod Refusals
+pub mod Sessions
