@@ -108,7 +108,8 @@ pub(crate) const FORMS: &str = "usage: nqs format DIR HOST
 All WORDs together have at most 4,000 bytes, where each counts 4 more.";
 
 /// The forms that the words of `nqs_ask` may have.
-pub(crate) const CALLER_FORMS: &str = "usage: nqs_ask qsub|qstat|qdel|qmgr|rqstat|rqdel DIR HOST [WORD]..
+pub(crate) const CALLER_FORMS: &str =
+    "usage: nqs_ask qsub|qstat|qdel|qmgr|rqstat|rqdel DIR HOST [WORD]..
 All WORDs together have at most 4,000 bytes, where each counts 4 more.";
 
 /// Says which forms the words may have.

@@ -11,7 +11,7 @@ const ASK: Step = Step::Ask(STAT);
 
 // The first word is looked at by `alpha`. The clock is read for what is an event of its own, and
 // for what goes on to `beta`.
-const FIRST_WORD: Case = Case {
+static FIRST_WORD: Case = Case {
     title: "the first word",
     steps: &[
         Step::Ask(Plea {
@@ -79,7 +79,7 @@ const FIRST_WORD: Case = Case {
 };
 
 // Only the last two of these are answers to the ask, and the second of them comes too late.
-const ONE_ANSWER: Case = Case {
+static ONE_ANSWER: Case = Case {
     title: "one answer of many is told",
     steps: &[
         ASK,
@@ -114,7 +114,7 @@ const ONE_ANSWER: Case = Case {
 };
 
 // Each is told to its own client, with what `beta` says of whether it was done.
-const CROSSED: Case = Case {
+static CROSSED: Case = Case {
     title: "answers in another order",
     steps: &[
         ASK,
@@ -132,7 +132,7 @@ const CROSSED: Case = Case {
 };
 
 // What comes behind the silence, or at a receive that brings something, is no matter.
-const SILENCE: Case = Case {
+static SILENCE: Case = Case {
     title: "no answer within the patience",
     steps: &[ASK, Step::Quiet, Step::Quiet, ANSWER, Step::Quiet],
     serving: Serving {
@@ -142,7 +142,7 @@ const SILENCE: Case = Case {
     },
 };
 
-const CLOCK_BACK: Case = Case {
+static CLOCK_BACK: Case = Case {
     title: "a clock that goes back",
     steps: &[ASK, Step::Quiet, Step::Quiet, Step::Quiet],
     serving: Serving {
@@ -153,7 +153,7 @@ const CLOCK_BACK: Case = Case {
 };
 
 // No moment is so much later.
-const LAST_MOMENT: Case = Case {
+static LAST_MOMENT: Case = Case {
     title: "an ask at the last moment",
     steps: &[ASK, Step::Quiet, ANSWER],
     serving: Serving {
@@ -172,7 +172,7 @@ const PATIENCE: Step = Step::Ask(Plea {
     ..STAT
 });
 
-const OTHER_PATIENCE: Case = Case {
+static OTHER_PATIENCE: Case = Case {
     title: "another patience, behind the ask",
     steps: &[ASK, PATIENCE, Step::Quiet, Step::Quiet],
     serving: Serving {
@@ -182,7 +182,7 @@ const OTHER_PATIENCE: Case = Case {
     },
 };
 
-const SOME_SILENT: Case = Case {
+static SOME_SILENT: Case = Case {
     title: "some of those that wait",
     steps: &[
         ASK,
@@ -207,7 +207,7 @@ const LIST: Step = Step::Ask(Plea {
     ..STAT
 });
 
-const BUSY: Case = Case {
+static BUSY: Case = Case {
     title: "something always comes",
     steps: &[ASK, LIST, ANSWER, ASK, LIST, Step::Quiet],
     serving: Serving {
@@ -218,7 +218,7 @@ const BUSY: Case = Case {
 };
 
 // A failed send is a loss.
-const ASK_LOST: Case = Case {
+static ASK_LOST: Case = Case {
     title: "the ask is lost",
     steps: &[ASK, Step::Quiet],
     serving: Serving {
@@ -231,7 +231,7 @@ const ASK_LOST: Case = Case {
     },
 };
 
-const ANSWER_LOST: Case = Case {
+static ANSWER_LOST: Case = Case {
     title: "the answer to the client is lost",
     steps: &[ASK, ANSWER, ANSWER, Step::Quiet],
     serving: Serving {
@@ -244,7 +244,7 @@ const ANSWER_LOST: Case = Case {
     },
 };
 
-const REFUSAL_LOST: Case = Case {
+static REFUSAL_LOST: Case = Case {
     title: "the first of two refusals is lost",
     steps: &[ASK, Step::Ask(DELETE), Step::Quiet, Step::Quiet],
     serving: Serving {
@@ -257,7 +257,7 @@ const REFUSAL_LOST: Case = Case {
     },
 };
 
-const FIRST_RECEIVE: Case = Case {
+static FIRST_RECEIVE: Case = Case {
     title: "the receive before an ask fails",
     steps: &[ASK, ANSWER],
     serving: Serving {
@@ -271,7 +271,7 @@ const FIRST_RECEIVE: Case = Case {
 };
 
 // A daemon that begins anew waits for nothing.
-const SECOND_RECEIVE: Case = Case {
+static SECOND_RECEIVE: Case = Case {
     title: "the receive behind an ask fails",
     steps: &[ASK, ANSWER, Step::Quiet],
     serving: Serving {
@@ -284,7 +284,7 @@ const SECOND_RECEIVE: Case = Case {
     },
 };
 
-const ANEW: Case = Case {
+static ANEW: Case = Case {
     title: "a daemon that begins anew",
     steps: &[
         ASK,
@@ -310,7 +310,7 @@ const ANEW: Case = Case {
 };
 
 // A client at port 0 is one like others, and a host that asks is none.
-const PORT_NONE: Case = Case {
+static PORT_NONE: Case = Case {
     title: "a client at port 0, and a host",
     steps: &[
         Step::Ask(Plea {
@@ -345,7 +345,7 @@ const PORT_NONE: Case = Case {
 };
 
 // The last one comes from the host itself, which is of the site.
-const STRANGERS: Case = Case {
+static STRANGERS: Case = Case {
     title: "hosts that may not ask, and one that may",
     steps: &[
         Step::Asked(Said { from: 2, ..SAID }),
@@ -361,30 +361,38 @@ const STRANGERS: Case = Case {
     },
 };
 
-static CASES: [Case; 17] = [
-    FIRST_WORD,
-    ONE_ANSWER,
-    CROSSED,
-    SILENCE,
-    CLOCK_BACK,
-    LAST_MOMENT,
-    OTHER_PATIENCE,
-    SOME_SILENT,
-    BUSY,
-    ASK_LOST,
-    ANSWER_LOST,
-    REFUSAL_LOST,
-    FIRST_RECEIVE,
-    SECOND_RECEIVE,
-    ANEW,
-    PORT_NONE,
-    STRANGERS,
-];
+// What is asked first, and which answers are told.
+fn put_answered(alloc: Global, out: &mut Vec<u8>) -> Result<(), Trouble> {
+    put_case(alloc, &FIRST_WORD, out)?;
+    put_case(alloc, &ONE_ANSWER, out)?;
+    put_case(alloc, &CROSSED, out)
+}
+
+// Asks that no host answers in time.
+fn put_unanswered(alloc: Global, out: &mut Vec<u8>) -> Result<(), Trouble> {
+    put_case(alloc, &SILENCE, out)?;
+    put_case(alloc, &CLOCK_BACK, out)?;
+    put_case(alloc, &LAST_MOMENT, out)?;
+    put_case(alloc, &OTHER_PATIENCE, out)?;
+    put_case(alloc, &SOME_SILENT, out)?;
+    put_case(alloc, &BUSY, out)
+}
+
+// Sends and receives that fail, and daemons that begin anew.
+fn put_failed(alloc: Global, out: &mut Vec<u8>) -> Result<(), Trouble> {
+    put_case(alloc, &ASK_LOST, out)?;
+    put_case(alloc, &ANSWER_LOST, out)?;
+    put_case(alloc, &REFUSAL_LOST, out)?;
+    put_case(alloc, &FIRST_RECEIVE, out)?;
+    put_case(alloc, &SECOND_RECEIVE, out)?;
+    put_case(alloc, &ANEW, out)
+}
 
 /// Prints what is seen in each case.
 pub(crate) fn put_cases(alloc: Global, out: &mut Vec<u8>) -> Result<(), Trouble> {
-    for case in &CASES {
-        put_case(alloc, case, out)?;
-    }
-    Ok(())
+    put_answered(alloc, out)?;
+    put_unanswered(alloc, out)?;
+    put_failed(alloc, out)?;
+    put_case(alloc, &PORT_NONE, out)?;
+    put_case(alloc, &STRANGERS, out)
 }

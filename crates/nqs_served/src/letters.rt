@@ -58,12 +58,17 @@ fn put_number(number: u8, out: &mut Vec<u8>) -> Result<(), Trouble> {
 
 /// The ASK of a user.
 pub(crate) fn ask(alloc: Global, plea: Plea<'_>) -> Result<Bytes, Trouble> {
+    ask_with(alloc, plea, plea.words)
+}
+
+/// The ASK of a user with these words in place of the plea's.
+pub(crate) fn ask_with(alloc: Global, plea: Plea<'_>, words: &[&[u8]]) -> Result<Bytes, Trouble> {
     let mut bytes = Vec::new(alloc);
     put(&[2, 10, plea.host, plea.host, 0, plea.port], &mut bytes)?;
     put_number(plea.token, &mut bytes)?;
     put_short(plea.user, &mut bytes)?;
     put(&[plea.tool], &mut bytes)?;
-    put_words(plea.words, &mut bytes)?;
+    put_words(words, &mut bytes)?;
     put_bytes(plea.script, &mut bytes)?;
     Ok(Bytes::from_vec(bytes))
 }

@@ -1,6 +1,6 @@
 //! How long the words of an ask of `beta` may be, how long its answer, and how many asks wait.
 
-use crate::letters::{Plea, Said, ask, remote_answer};
+use crate::letters::{Plea, Said, ask, ask_with, remote_answer};
 use crate::outside::NONE;
 use crate::remotes::{SAID, STAT};
 use crate::seen::{Serving, put_seen, serve_alpha};
@@ -9,45 +9,37 @@ use crate::trouble::Trouble;
 use nqs_base::Bytes;
 use std::alloc::Global;
 
-// `rqstat` by ann of a host, with one more word of so many bytes.
-fn one_word(alloc: Global, token: u8, host: &[u8], length: usize) -> Result<Bytes, Trouble> {
-    let word = vec![in alloc; b'w'; length]?;
-    let words = [host, word.as_slice()];
-    let plea = Plea {
-        token,
-        words: &words,
-        ..STAT
-    };
-    ask(alloc, plea)
+// The longest word that may go on alone, and one that is longer.
+static LONGEST: [u8; 996] = [b'w'; 996];
+
+static LONGER: [u8; 997] = [b'w'; 997];
+
+// `rqstat` by ann with these words.
+fn with_words(alloc: Global, token: u8, words: &[&'static [u8]]) -> Result<Bytes, Trouble> {
+    ask_with(alloc, Plea { token, ..STAT }, words)
 }
 
 // `rqstat beta` by ann, with so many more words without bytes.
 fn empty_words(alloc: Global, token: u8, count: u8) -> Result<Bytes, Trouble> {
-    let mut words: Vec<&[u8]> = Vec::new(alloc);
+    let mut words: Vec<&'static [u8]> = Vec::new(alloc);
     words.push(b"beta")?;
     for _ in 0..count {
         words.push(b"")?;
     }
-    let plea = Plea {
-        token,
-        words: words.as_slice(),
-        ..STAT
-    };
-    ask(alloc, plea)
+    with_words(alloc, token, words.as_slice())
 }
 
 // 1,000 bytes of words go on, each with the 4 of its length, without those of the host's name. A
 // host that isn't there is told first, and words for the own host have no such limit.
 fn put_words(alloc: Global, out: &mut Vec<u8>) -> Result<(), Trouble> {
     put(b"\n== words at their limit\n", out)?;
-    let comes = [
-        one_word(alloc, 1, b"beta", 996)?,
-        one_word(alloc, 2, b"beta", 997)?,
-        empty_words(alloc, 3, 250)?,
-        empty_words(alloc, 4, 251)?,
-        one_word(alloc, 5, b"gamma", 997)?,
-        one_word(alloc, 6, b"alpha", 997)?,
-    ];
+    let mut comes = Vec::new(alloc);
+    comes.push(with_words(alloc, 1, &[b"beta", &LONGEST])?)?;
+    comes.push(with_words(alloc, 2, &[b"beta", &LONGER])?)?;
+    comes.push(empty_words(alloc, 3, 250)?)?;
+    comes.push(empty_words(alloc, 4, 251)?)?;
+    comes.push(with_words(alloc, 5, &[b"gamma", &LONGER])?)?;
+    comes.push(with_words(alloc, 6, &[b"alpha", &LONGER])?)?;
     let serving = Serving {
         failing: NONE,
         moments: &[1, 2, 3, 4, 5, 6],
@@ -96,7 +88,7 @@ fn asks(alloc: Global, count: u8) -> Result<Vec<Bytes>, Trouble> {
 fn put_full(alloc: Global, out: &mut Vec<u8>) -> Result<(), Trouble> {
     put(b"\n== 64 asks, and one more\n", out)?;
     let mut comes = asks(alloc, 65)?;
-    comes.push(one_word(alloc, 66, b"beta", 997)?)?;
+    comes.push(with_words(alloc, 66, &[b"beta", &LONGER])?)?;
     let seventh = Said { number: 7, ..SAID };
     comes.push(remote_answer(alloc, seventh, 1, b"to the seventh\n")?)?;
     comes.push(ask(alloc, Plea { token: 67, ..STAT })?)?;
