@@ -1,7 +1,6 @@
 //! Which load an answer tells.
 
 use crate::sides::{End, add_answer, balances, quiet_outside};
-use nqs_base::Memory;
 use std::alloc::Global;
 use std::rt::HostRuntime;
 use std::test::Fail;
@@ -10,7 +9,7 @@ use std::test::Fail;
 const ONE: &[&str] = &["ann", "out", "small@cray"];
 
 // Whether this line is written where the one destination's host answers so.
-fn tells(alloc: Global, ok: bool, text: &[u8], line: &[u8]) -> Result<bool, Memory> {
+fn tells(alloc: Global, ok: bool, text: &[u8], line: &[u8]) -> Result<bool, Fail> {
     let mut outside = quiet_outside(alloc);
     add_answer(alloc, 1, 1, 5, ok, text, &mut outside.script)?;
     add_answer(alloc, 2, 0, 6, true, b"", &mut outside.script)?;

@@ -24,7 +24,7 @@ fn answering(alloc: Global) -> Result<Outside, Memory> {
 }
 
 // How it ends where the send of this number fails, and whether just this was written.
-fn at_send(alloc: Global, number: u64, written: &[u8]) -> Result<(End, bool), Memory> {
+fn at_send(alloc: Global, number: u64, written: &[u8]) -> Result<(End, bool), Fail> {
     let mut outside = answering(alloc)?;
     outside.failing_sends.push(number)?;
     let (end, is_written, wire) = balances(alloc, TWO, outside, written)?;
@@ -33,7 +33,7 @@ fn at_send(alloc: Global, number: u64, written: &[u8]) -> Result<(End, bool), Me
 }
 
 // How it ends where the receive of this number fails, and whether just this was written.
-fn at_receive(alloc: Global, number: u64, written: &[u8]) -> Result<(End, bool), Memory> {
+fn at_receive(alloc: Global, number: u64, written: &[u8]) -> Result<(End, bool), Fail> {
     let mut outside = answering(alloc)?;
     outside.failing_receives.push(number)?;
     let (end, is_written, wire) = balances(alloc, TWO, outside, written)?;

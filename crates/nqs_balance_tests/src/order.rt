@@ -68,15 +68,15 @@ fn the_least_becomes_the_first(rt: HostRuntime) -> Result<(), Fail> {
 
 // Whether it ends so where the last of the edits is answered so: by the number of the status and
 // how many edits were sent.
-fn ends_at(alloc: Global, done: u64, answered: bool) -> Result<(End, bool), Memory> {
+fn ends_at(alloc: Global, done: u8, answered: bool) -> Result<(End, bool), Fail> {
     let mut outside = quiet_outside(alloc);
     loads(alloc, &mut outside)?;
     for edit in 0..done {
         add_answer(
             alloc,
-            4 + edit,
+            u64::from(edit).saturating_add(4),
             0,
-            8 + edit as u8,
+            edit.saturating_add(8),
             true,
             b"",
             &mut outside.script,
@@ -86,9 +86,9 @@ fn ends_at(alloc: Global, done: u64, answered: bool) -> Result<(End, bool), Memo
         let text = b"Refused 1: ann is no manager.\n";
         add_answer(
             alloc,
-            4 + done,
+            u64::from(done).saturating_add(4),
             0,
-            8 + done as u8,
+            done.saturating_add(8),
             false,
             text,
             &mut outside.script,

@@ -7,6 +7,7 @@ use nqs_fakes::{Item, Kept, MemWire};
 use nqs_outside::{Address, MemSink};
 use nqs_types::HostId;
 use std::alloc::Global;
+use std::test::Fail;
 
 /// The port at which answers come.
 const PORT: u16 = 9;
@@ -42,13 +43,6 @@ pub(crate) fn quiet_outside(alloc: Global) -> Outside {
     }
 }
 
-fn name(text: &[u8]) -> Name {
-    match Name::read(text) {
-        Ok(name) => name,
-        Err(_) => unreachable!(),
-    }
-}
-
 /// The words as they are typed.
 pub(crate) fn typed(alloc: Global, words: &[&str]) -> Result<Vec<String>, Memory> {
     let mut list = Vec::new(alloc);
@@ -70,7 +64,7 @@ pub(crate) fn read(alloc: Global, words: &[&str]) -> Result<Option<Balancing>, M
 
 // Adds a number of four bytes, the highest first.
 fn put_four(number: usize, out: &mut Vec<u8>) -> Result<(), Memory> {
-    out.extend_from_slice(&(number as u32).to_be_bytes())?;
+    out.extend_from_slice(&u32::try_from(number).unwrap_or(u32::MAX).to_be_bytes())?;
     Ok(())
 }
 
@@ -111,20 +105,20 @@ pub(crate) fn add_answer(
     Ok(())
 }
 
-// Was it a receive?
-fn is_receive(kept: &Kept) -> bool {
-    !matches!(kept, Kept::Outbound(_, _))
+// Was it a send?
+fn is_send(kept: &Kept) -> bool {
+    matches!(kept, Kept::Outbound(_, _))
 }
 
 /// Were these bytes sent to the host at this place among the sends?
 pub(crate) fn is_sent(wire: &MemWire, place: usize, host: u8, bytes: &[u8]) -> bool {
-    let mut seen = 0;
+    let mut left = place;
     for kept in wire.kept() {
         if let Kept::Outbound(to, sent) = kept {
-            if seen == place {
+            if left == 0 {
                 return *to == Address::Host(HostId(host)) && sent.as_slice() == bytes;
             }
-            seen += 1;
+            left -= 1;
         }
     }
     false
@@ -137,7 +131,7 @@ pub(crate) fn balances(
     words: &[&str],
     outside: Outside,
     written: &[u8],
-) -> Result<(End, bool, MemWire), Memory> {
+) -> Result<(End, bool, MemWire), Fail> {
     let Outside {
         script,
         failing_receives,
@@ -146,11 +140,10 @@ pub(crate) fn balances(
     } = outside;
     let mut wire = MemWire::new(alloc, script, failing_receives, failing_sends);
     let (status, is_written) = over(alloc, words, failing_writes, written, &mut wire)?;
-    let received = wire.kept().iter().filter(|kept| is_receive(kept)).count();
     let end = End {
         status,
-        sent: wire.kept().len() - received,
-        received,
+        sent: wire.kept().iter().filter(|kept| is_send(kept)).count(),
+        received: wire.kept().iter().filter(|kept| !is_send(kept)).count(),
     };
     Ok((end, is_written, wire))
 }
@@ -162,11 +155,11 @@ fn over(
     failing_writes: Vec<u64>,
     written: &[u8],
     wire: &mut MemWire,
-) -> Result<(u8, bool), Memory> {
+) -> Result<(u8, bool), Fail> {
     let Some(balancing) = read(alloc, words)? else {
         return Ok((NqsStatus::BadWords.number(), true));
     };
-    let site = [name(b"front"), name(b"cray")];
+    let site = [Name::read(b"front")?, Name::read(b"cray")?];
     let mut out = MemSink::new(alloc, 1000, failing_writes);
     let status = balance(alloc, &site, HostId(0), &balancing, PORT, wire, &mut out);
     Ok((status.number(), out.taken() == written))
